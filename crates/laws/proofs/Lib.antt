@@ -1,0 +1,4 @@
+pub mod ChoiceLaws
+pub mod SearchLaws
+pub mod SetsLaws
+pub mod RisingLaws
