@@ -2,3 +2,4 @@ pub mod ChoiceLaws
 pub mod SearchLaws
 pub mod SetsLaws
 pub mod RisingLaws
+pub mod PiecesLaws

@@ -1,0 +1,90 @@
+use Rattle.laws.proofs.ChoiceLaws.{tests}
+use Rattle.ranges.specs.Steps.{step}
+use Rattle.ranges.proofs.StepsLaws.{cost-small}
+use borrow.Author.Tests.{eq-eqb, ne-eqb}
+use mathlib.Core.Path.{sym, _∙_}
+use borrow.Author.Needs.{needs}
+use Rattle.ranges.proofs.RangeState.absorb.Statement.{statement}
+use Rattle.ranges.proofs.RangeState.absorb.Tie as tie
+
+cast-if2 : tie.Need-cast-if2
+cast-if2 c = search needs
+
+add-if2 : tie.Need-add-if2
+add-if2 c = search needs
+
+cast-if3 : tie.Need-cast-if3
+cast-if3 c = search needs
+
+add-if3 : tie.Need-add-if3
+add-if3 c = search needs
+
+grow-requires : tie.Need-grow-requires
+grow-requires c κs = search needs
+
+returns : tie.Need-returns
+unfolding step
+returns c = search (tests, c .before .before .before .before .before .if1 .taken, c .grow .ensures)
+
+cost-requires : tie.Need-cost-requires
+cost-requires c κs = search needs
+
+run-pays-requires : tie.Need-run-pays-requires
+run-pays-requires c κs = simp (c .cost .ensures) (cost-small (c .before .before .before .before .before .before .args .self))
+
+turn-requires : tie.Need-turn-requires
+turn-requires c κs = search needs
+
+commit-current-range-requires : tie.Need-commit-current-range-requires
+commit-current-range-requires c κs = simp (c .before .before .before .cost .ensures) (cost-small (c .before .before .before .before .before .before .before .before .before .args .self))
+
+returns-2 : tie.Need-returns-2
+unfolding step
+returns-2 c = simp (c .before .before .before .before .before .before .before .before .before .if1 .taken, eq-eqb _ _ (c .before .before .before .before .before .before .before .if2 .taken), ne-eqb _ _ (c .before .before .before .before .before .if3 .left), c .commit-current-range .ensures, c .before .turn .ensures, c .before .before .before .before .cost .ensures, simp (c .before .before .before .before .cost .ensures) at (sym (c .before .before .before .run-pays .ensures) ∙ c .before .before .if4 .taken))
+
+turn-requires-2 : tie.Need-turn-requires-2
+turn-requires-2 c κs = search needs
+
+returns-3 : tie.Need-returns-3
+unfolding step
+returns-3 c = simp (c .before .before .before .before .before .before .before .before .if1 .taken, eq-eqb _ _ (c .before .before .before .before .before .before .if2 .taken), ne-eqb _ _ (c .before .before .before .before .if3 .left), c .turn2 .ensures, simp (c .before .before .before .cost .ensures) at (sym (c .before .before .run-pays .ensures) ∙ c .before .if4 .left))
+
+begin-requires : tie.Need-begin-requires
+begin-requires c κs = search needs
+
+commit-current-range-requires-2 : tie.Need-commit-current-range-requires-2
+commit-current-range-requires-2 c κs = search needs
+
+returns-4 : tie.Need-returns-4
+unfolding step
+returns-4 c = search (tests, c .before .before .before .before .if1 .taken, c .commit-current-range2 .ensures, c .before .begin .ensures)
+
+begin-requires-2 : tie.Need-begin-requires-2
+begin-requires-2 c κs = search needs
+
+returns-5 : tie.Need-returns-5
+unfolding step
+returns-5 c = search (c .before .if1 .left, c .begin2 .ensures)
+
+pub absorb-spec : {M : Type 1} → statement M
+absorb-spec =
+    tie.close
+    (tie.spec
+    cast-if2
+    add-if2
+    cast-if3
+    add-if3
+    grow-requires
+    returns
+    cost-requires
+    run-pays-requires
+    turn-requires
+    commit-current-range-requires
+    returns-2
+    turn-requires-2
+    returns-3
+    begin-requires
+    commit-current-range-requires-2
+    returns-4
+    begin-requires-2
+    returns-5)

@@ -1,0 +1,54 @@
+-- Laws of the range state's steps, and of a walk over two slices with it.
+use Prim.Native.Nat.{ℕ, suc, _+_, _≤_, _<_}
+use native.Mathlib.Nat.{add-assoc, zero-add}
+use native.Mathlib.Numerals.{add-one}
+use mathlib.Core.List.{List, [], _∷_, _++_}
+use lib.ListN.{length, getD, drop, length-append, drop-of-length-le}
+use lib.Seq.{drop-cons}
+use mathlib.Core.Path.{_≡_, refl, sym, _∙_, ap}
+use mathlib.Core.Bool.{Bool, true, false}
+use lib.Dec.{lit≤}
+use Rattle.laws.specs.Choice.{pick}
+use Rattle.laws.specs.Lists.{pairs}
+use Rattle.ranges.specs.declared.RangeState.{RangeState}
+use Rattle.ranges.specs.declared.Segment.{Segment}
+use Rattle.ranges.specs.declared.Absorbed.{Absorbed}
+use Rattle.ranges.specs.declared.Finished.{Finished}
+use Rattle.ranges.specs.Steps.{costOf, cutFrom, step, finish, toList, closing, entries, entriesOf}
+
+pick-small : (t : Bool) → (1 ≤ pick t 16 8) × (pick t 16 8 ≤ 16)
+pick-small true = (lit≤ tt, lit≤ tt)
+pick-small false = (lit≤ tt, lit≤ tt)
+
+pub cost-small : (s : RangeState) → (1 ≤ costOf s) × (costOf s ≤ 16)
+cost-small s = pick-small (s .later)
+
+pub entries-append : (a b : List Segment) → entries (a ++ b) ≡ entries a + entries b
+entries-append [] b = sym (zero-add (entries b))
+entries-append (x ∷ a) b = ap (λ (n : ℕ). entriesOf x + n) (entries-append a b) ∙ sym (add-assoc (entriesOf x) (entries a) (entries b))
+
+-- one turn of a walk over two slices: what is left at i is what the pair at i commits, and what is left at i + 1
+pub walk-step : (s : RangeState) (cs gs : List ℕ) (i : ℕ) → i < length cs → i < length gs
+    → cutFrom s (pairs (drop i cs) (drop i gs))
+    ≡ toList (step s (getD cs i 0) (getD gs i 0) .out) ++ cutFrom (step s (getD cs i 0) (getD gs i 0) .state) (pairs (drop (i + 1) cs) (drop (i + 1) gs))
+unfolding cutFrom
+walk-step s cs gs i p q = rw (add-one i, drop-cons cs i 0 p, drop-cons gs i 0 q)
+
+-- past the last pair
+pub walk-end : (s : RangeState) (cs gs : List ℕ) (i : ℕ) → length cs ≤ i
+    → cutFrom s (pairs (drop i cs) (drop i gs)) ≡ toList (finish s .out) ++ closing (finish s .close)
+unfolding cutFrom
+walk-end s cs gs i p = rw (drop-of-length-le cs p)
+
+-- ---- one law for every walk: x is what the walk has made so far, and `run x ss` what it makes of the segments ss on top of x
+module _ {X : Type 0} (run : X → List Segment → X) (app : (x : X) (a b : List Segment) → run x (a ++ b) ≡ run (run x a) b) where
+  pub sink-step : (s : RangeState) (cs gs : List ℕ) (i : ℕ) (a : Absorbed) (x x′ : X) → i < length cs → i < length gs
+      → a ≡ step s (getD cs i 0) (getD gs i 0) → x′ ≡ run x (toList (a .out))
+      → run x′ (cutFrom (a .state) (pairs (drop (i + 1) cs) (drop (i + 1) gs))) ≡ run x (cutFrom s (pairs (drop i cs) (drop i gs)))
+  sink-step s cs gs i a x x′ p q e h =
+      rw (h, e, walk-step s cs gs i p q)
+      (sym (app x (toList (step s (getD cs i 0) (getD gs i 0) .out)) (cutFrom (step s (getD cs i 0) (getD gs i 0) .state) (pairs (drop (i + 1) cs) (drop (i + 1) gs)))))
+
+  pub sink-end : (s : RangeState) (cs gs : List ℕ) (i : ℕ) (f : Finished) (x x′ : X) → length cs ≤ i
+      → f ≡ finish s → x′ ≡ run x (toList (f .out)) → run x′ (closing (f .close)) ≡ run x (cutFrom s (pairs (drop i cs) (drop i gs)))
+  sink-end s cs gs i f x x′ p e h = rw (h, e, walk-end s cs gs i p) (sym (app x (toList (finish s .out)) (closing (finish s .close))))
