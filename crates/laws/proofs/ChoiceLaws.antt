@@ -95,3 +95,13 @@ module _ {A : Type 0} {z : A} (a b : ℕ) (x y : A) where
   else-eq h e = rw (ne-eqb a b h) e
 
 pub ruleset choices = (if-lt, else-lt, if-le, else-le, if-eq, else-eq)
+
+-- tests asked one after the other: t is the code's own answer for a
+module _ (a b t : Bool) where
+  pub either-first : t ≡ a → t ≡ true → true ≡ either a b
+  either-first q e = rw (← q, e)
+
+  pub either-then : (r : Bool) → t ≡ a → t ≡ false → r ≡ b → r ≡ either a b
+  either-then r q e h = rw (← q, e) h
+
+pub ruleset one-of = (either-first, either-then)

@@ -1,0 +1,27 @@
+use Rattle.laws.proofs.ChoiceLaws.{one-of}
+use borrow.Author.Needs.{needs}
+use Rattle.checks.proofs.bad_pairs.Statement.{statement}
+use Rattle.checks.proofs.bad_pairs.Tie as tie
+
+falls-requires : tie.Need-falls-requires
+falls-requires c κs = search needs
+
+returns : tie.Need-returns
+returns c = search one-of
+
+exceeds-requires : tie.Need-exceeds-requires
+exceeds-requires c κs = search needs
+
+returns-2 : tie.Need-returns-2
+returns-2 c = search one-of
+
+exceeds16-requires : tie.Need-exceeds16-requires
+exceeds16-requires c κs = search needs
+
+returns-3 : tie.Need-returns-3
+returns-3 c = search one-of
+
+pub bad-pairs-spec : {M : Type 1} → statement M
+bad-pairs-spec =
+    tie.close
+    (tie.spec falls-requires returns exceeds-requires returns-2 exceeds16-requires returns-3)

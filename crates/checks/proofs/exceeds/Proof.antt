@@ -1,0 +1,59 @@
+use Rattle.checks.specs.Checks.{exceeds, isAbove}
+use Rattle.laws.proofs.SearchLaws.{Asking, asking}
+use Prim.Native.Nat.{_-_}
+use lib.ListN.{length}
+use native.Mathlib.Omega.{arith}
+use borrow.Author.Needs.{needs}
+use Rattle.checks.proofs.exceeds.Statement.{statement}
+use Rattle.checks.proofs.exceeds.Tie as tie
+
+abbrev Inv-loop : tie.InvT-loop
+Inv-loop m xs i₀ i = Asking (isAbove m xs) (length xs) i
+
+abbrev μ-loop : tie.MeasureT-loop
+μ-loop m xs i₀ i = length xs - i
+
+loop-holds : tie.Need-loop-holds Inv-loop μ-loop
+loop-holds c = search (needs, asking)
+
+mul-above : tie.Need-mul-above Inv-loop μ-loop
+mul-above c = omega arith
+
+shared-slice-read-above : tie.Need-shared-slice-read-above Inv-loop μ-loop
+shared-slice-read-above c = omega arith
+
+above-requires : tie.Need-above-requires Inv-loop μ-loop
+above-requires c κs = omega arith
+
+returns : tie.Need-returns Inv-loop μ-loop
+unfolding exceeds
+returns c = search (needs, asking)
+
+add-i : tie.Need-add-i Inv-loop μ-loop
+add-i c = omega arith
+
+loop-less : tie.Need-loop-less Inv-loop μ-loop
+loop-less c = omega arith
+
+loop-again : tie.Need-loop-again Inv-loop μ-loop
+loop-again c = search (needs, asking)
+
+returns-2 : tie.Need-returns-2 Inv-loop μ-loop
+unfolding exceeds
+returns-2 c = search (needs, asking)
+
+pub exceeds-spec : {M : Type 1} → statement M
+exceeds-spec =
+    tie.close
+    (tie.spec
+    Inv-loop
+    μ-loop
+    loop-holds
+    mul-above
+    shared-slice-read-above
+    above-requires
+    returns
+    add-i
+    loop-less
+    loop-again
+    returns-2)
