@@ -3,3 +3,5 @@ pub mod SearchLaws
 pub mod SetsLaws
 pub mod RisingLaws
 pub mod PiecesLaws
+pub mod StandsLaws
+pub mod EitherLaws
