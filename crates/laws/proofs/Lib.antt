@@ -4,3 +4,5 @@ pub mod SetsLaws
 pub mod RisingLaws
 pub mod PiecesLaws
 pub mod SomeLaws
+pub mod StandsLaws
+pub mod EitherLaws

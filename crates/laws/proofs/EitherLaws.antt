@@ -1,0 +1,21 @@
+-- Tests joined by "or": where the whole fails, each part does.
+use mathlib.Core.Path.{_≡_, refl, sym}
+use mathlib.Core.Bool.{Bool, true, false, not}
+use Rattle.laws.specs.Choice.{either}
+use Rattle.laws.proofs.ChoiceLaws.{false-true}
+
+pub not-false : (b : Bool) → (b ≡ false → ⊥) → b ≡ true
+not-false true h = refl
+not-false false h = absurd (h refl)
+
+pub true-of-not : (b : Bool) → not b ≡ false → b ≡ true
+true-of-not true e = refl
+true-of-not false e = absurd (false-true (sym e))
+
+pub neither-left : (a b : Bool) → either a b ≡ false → a ≡ false
+neither-left true b e = e
+neither-left false b e = refl
+
+pub neither-right : (a b : Bool) → either a b ≡ false → b ≡ false
+neither-right true b e = absurd (false-true (sym e))
+neither-right false b e = e

@@ -1,0 +1,3 @@
+pub mod HeaderLaws
+pub mod KindLaws
+pub mod StandsLaws

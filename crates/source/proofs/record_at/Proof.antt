@@ -1,0 +1,68 @@
+-- The bound on k is that of the record's eight bytes, divided so that nothing wraps.
+use Rattle.source.specs.Header.{entryAt}
+use Rattle.laws.proofs.ChoiceLaws.{if-lt, else-lt}
+use mathlib.Core.Path.{refl}
+use native.Mathlib.Omega.{arith}
+use borrow.Author.Needs.{needs}
+use Rattle.source.proofs.record_at.Statement.{statement}
+use Rattle.source.proofs.record_at.Tie as tie
+
+returns : tie.Need-returns
+unfolding entryAt
+returns c = if-lt _ _ _ _ (omega arith) refl
+
+returns-2 : tie.Need-returns-2
+unfolding entryAt
+returns-2 c = if-lt _ _ _ _ (omega arith) refl
+
+mul-u16-at : tie.Need-mul-u16-at
+mul-u16-at c = search needs
+
+add-u16-at : tie.Need-add-u16-at
+add-u16-at c = search needs
+
+u16-at-requires : tie.Need-u16-at-requires
+u16-at-requires c κs = search needs
+
+mul-u16-at-2 : tie.Need-mul-u16-at-2
+mul-u16-at-2 c = search needs
+
+add-u16-at-2 : tie.Need-add-u16-at-2
+add-u16-at-2 c = search needs
+
+u16-at-requires-2 : tie.Need-u16-at-requires-2
+u16-at-requires-2 c κs = search needs
+
+mul-u32-at : tie.Need-mul-u32-at
+mul-u32-at c = search needs
+
+add-u32-at : tie.Need-add-u32-at
+add-u32-at c = search needs
+
+u32-at-requires : tie.Need-u32-at-requires
+u32-at-requires c κs = search needs
+
+cast-t14 : tie.Need-cast-t14
+cast-t14 c = search needs
+
+returns-3 : tie.Need-returns-3
+unfolding entryAt
+returns-3 c = else-lt _ _ _ _ (omega arith) (cc)
+
+pub record-at-spec : {M : Type 1} → statement M
+record-at-spec =
+    tie.close
+    (tie.spec
+    returns
+    returns-2
+    mul-u16-at
+    add-u16-at
+    u16-at-requires
+    mul-u16-at-2
+    add-u16-at-2
+    u16-at-requires-2
+    mul-u32-at
+    add-u32-at
+    u32-at-requires
+    cast-t14
+    returns-3)
