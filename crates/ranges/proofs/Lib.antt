@@ -1,1 +1,2 @@
 pub mod StepsLaws
+pub mod CuttingLaws
