@@ -1,227 +1,210 @@
--- The walk pair by pair writes the segments of the cutting by ranges and runs.
-use Prim.Native.Nat.{ℕ, suc, _+_, _-_, _*_, _≤_, _<_}
+-- The cuts of a list of pairs are that list in parts, each of adjacent code points; and the glyph array can be found segment by segment.
+use Prim.Native.Nat.{ℕ, suc, _+_, _-_, _*_}
 use native.Mathlib.Omega.{arith}
+use native.Mathlib.Nat.{zero-add}
 use mathlib.Core.Path.{_≡_, refl, sym, _∙_, ap}
 use mathlib.Core.List.{List, [], _∷_, _++_, map, map-append, append-assoc, append-nil}
 use mathlib.Core.Bool.{Bool, true, false, not}
-use lib.Dec.{eqb, leb, ltb}
-use lib.ListN.{length}
-use borrow.Author.Tests.{eq-eqb, ne-eqb, lt-ltb, le-leb, leb-true, leb-false, eqb-true, ltb-true}
+use lib.Dec.{eqb, leb}
+use lib.ListN.{length, take, drop, length-append, length-map}
+use lib.Seq.{take-at, drop-at}
+use borrow.Author.Tests.{eqb-true}
 use Rattle.laws.specs.Choice.{pick, both}
 use Rattle.laws.specs.Lists.{Pair}
 use Rattle.laws.specs.Pieces.{pieces, concat}
-use Rattle.laws.proofs.ChoiceLaws.{by-pick, leb-same}
-use Rattle.laws.proofs.PiecesLaws.{Joined, lone, more, joined-snoc, pieces-joined, pieces-all, concat-append}
-use Rattle.laws.proofs.PiecesFirstLaws.{First, prefixed, pieces-first, pieces-on}
+use Rattle.laws.specs.Linked.{Each, Filled, Linked}
+use Rattle.laws.proofs.ChoiceLaws.{by-pick, both-left, false-true}
+use Rattle.laws.proofs.PiecesLaws.{concat-append, concat-pieces}
+use Rattle.laws.proofs.PiecesFirstLaws.{First, pieces-first}
+use Rattle.laws.proofs.LinkedLaws.{each-append, each-of, filled-left, filled-right, linked-filled, pieces-linked, linked-parts}
 use Rattle.ranges.specs.declared.Segment.{Segment}
-use Rattle.ranges.specs.declared.RangeState.{RangeState}
-use Rattle.ranges.specs.declared.Absorbed.{Absorbed}
-use Rattle.ranges.specs.declared.Committed.the-variants.{None, One, Two}
-use Rattle.ranges.specs.Steps.{deltaOf, seg, idle, begun, grown, turned, absorbed, pays, commit, step, finish, toList, closing, cutFrom}
-use Rattle.ranges.specs.Cutting.{nextCode, nextGlyph, rangesOf, runsOf, reaches, Cut, runDelta, loneDelta, cutOf, commitRun, cutRuns, cutRange, cuts, firstCode, lastCode, segmentOf, lastEnd, closed, segments}
+use Rattle.ranges.specs.Steps.{closing, entries, entriesOf}
+use Rattle.ranges.specs.Cutting.{nextCode, nextGlyph, rangesOf, runsOf, reaches, Cut, cutOf, present, commitRun, cutRuns, cutRange, cuts, firstCode, lastCode, segmentOf, lastEnd, closed, segments, glyphs, arrayOf, glyphArray, arrayFrom}
 
--- ---- a run as the walk has gathered it: from x to l
+-- ---- runs joined
 
-pub last-joined : {x l : Pair} {xs : List Pair} → Joined nextCode x xs l → lastCode (x ∷ xs) ≡ l .0
-last-joined lone = refl
-last-joined (more e j) = last-joined j
-
-pub length-joined : {x l : Pair} {xs : List Pair} → Joined nextCode x xs l → l .0 + 1 ≡ x .0 + length (x ∷ xs)
-length-joined lone = refl
-length-joined {x} (more {y = y} e j) = let f = length-joined j in let g = eqb-true (y .0) (x .0 + 1) e in omega arith
-
-pub last-append : (ps : List Pair) (q : Pair) (qs : List Pair) → lastCode (ps ++ (q ∷ qs)) ≡ lastCode (q ∷ qs)
-last-append [] q qs = refl
-last-append (p ∷ []) q qs = refl
-last-append (p ∷ p′ ∷ ps) q qs = last-append (p′ ∷ ps) q qs
-
--- the state of a walk whose running run goes from x to l
-abbrev at : Bool → ℕ → ℕ → ℕ → Pair → Pair → RangeState
-at later start prev prevdelta x l =
-    record { running = true; later = later; start = start; prev = prev; prevdelta = prevdelta; run = x .0; delta = deltaOf (x .0) (x .1); end = l .0; glyph = l .1 }
-
--- the earlier runs that are not committed lie from start to just before b
-record Before (start prev prevdelta : ℕ) (earlier : List (List Pair)) (b : ℕ) : Type 0 where
-  pub head : Pair
-  pub tail : List Pair
-  pub is : concat earlier ≡ head ∷ tail
-  pub first : head .0 ≡ start
-  pub last : lastCode (head ∷ tail) + 1 ≡ b
-  pub below : start < b
-  pub delta-is : pick (eqb start prev) prevdelta 0 ≡ loneDelta earlier
-
-abbrev Earlier : ℕ → ℕ → ℕ → List (List Pair) → ℕ → Type 0
-Earlier start prev prevdelta [] b = start ≡ b
-Earlier start prev prevdelta (run ∷ runs) b = Before start prev prevdelta (run ∷ runs) b
-
--- ---- a commit
-
-concat-snoc : (runs : List (List Pair)) (run : List Pair) → concat (runs ++ (run ∷ [])) ≡ concat runs ++ run
+pub concat-snoc : (runs : List (List Pair)) (run : List Pair) → concat (runs ++ (run ∷ [])) ≡ concat runs ++ run
 unfolding concat
 concat-snoc runs run = concat-append runs (run ∷ []) ∙ ap (λ (ps : List Pair). concat runs ++ ps) (append-nil run)
 
-lone-snoc : (e : List Pair) (es : List (List Pair)) (run : List Pair) → loneDelta ((e ∷ es) ++ (run ∷ [])) ≡ 0
-lone-snoc e [] run = refl
-lone-snoc e (f ∷ es) run = refl
+pub last-append : (ps qs : List Pair) → Filled qs → lastCode (ps ++ qs) ≡ lastCode qs
+last-append ps [] h = absurd h
+last-append [] (q ∷ qs) h = refl
+last-append (p ∷ []) (q ∷ qs) h = refl
+last-append (p ∷ p′ ∷ ps) (q ∷ qs) h = last-append (p′ ∷ ps) (q ∷ qs) h
 
-module _ (later : Bool) (start prev prevdelta : ℕ) {x l : Pair} {xs : List Pair} (j : Joined nextCode x xs l) where
-  abbrev s : RangeState
-  s = at later start prev prevdelta x l
+-- adjacent code points: as many as there are from the first to the last
+linked-last : (ps : List Pair) → Linked nextCode ps → lastCode ps + 1 ≡ firstCode ps + length ps
+linked-last [] h = absurd h
+linked-last (p ∷ []) h = refl
+linked-last (p ∷ q ∷ ps) h = let e = linked-last (q ∷ ps) (h .1) in let f = eqb-true (q .0) (p .0 + 1) (h .0) in omega arith
 
-  abbrev run : List Pair
-  run = x ∷ xs
+pub linked-length : (ps : List Pair) → Linked nextCode ps → lastCode ps + 1 - firstCode ps ≡ length ps
+linked-length ps h = let e = linked-last ps h in omega arith
 
-  pays-is : (cost : ℕ) → pays s cost ≡ reaches cost run
-  unfolding pays
-  pays-is cost =
-      let n = length-joined j in
-      let k : l .0 + 1 - x .0 ≡ suc (length xs) = omega arith in
-      rw k
+-- ---- the pairs of cuts
 
-  two-is : ltb (x .0) (l .0) ≡ leb 2 (length run)
-  two-is = let n = length-joined j in leb-same (suc (x .0)) (l .0) 2 (suc (length xs)) (λ h. omega arith) (λ h. omega arith)
+abbrev pub parts : List Cut → List (List Pair)
+parts cs = map (λ (x : Cut). x .pairs) cs
 
-  lone-is : segmentOf (cutOf (run ∷ [])) ≡ seg (x .0) (l .0) (deltaOf (x .0) (x .1))
-  unfolding concat
-  lone-is = rw (append-nil xs, last-joined j)
-
-  commit-is : (cost : ℕ) (earlier : List (List Pair)) → Earlier start prev prevdelta earlier (x .0)
-      → toList (commit s cost) ≡ map segmentOf (commitRun cost earlier run)
-  unfolding commit commitRun
-  commit-is cost [] b = rw (eq-eqb start (x .0) b, lone-is, b)
-  commit-is cost (e ∷ es) b =
-      rw (ne-eqb start (x .0) (λ z. let h = b .below in omega arith), lt-ltb start (x .0) (b .below), two-is, pays-is cost)
-      (go (both (leb 2 (length run)) (reaches cost run)))
-    where
-      part-is : segmentOf (cutOf (e ∷ es)) ≡ seg start (x .0 - 1) (pick (eqb start prev) prevdelta 0)
-      part-is =
-          let k : lastCode (b .head ∷ b .tail) ≡ x .0 - 1 = let h = b .last in omega arith in
-          rw (b .is, k, b .first, b .delta-is)
-
-      whole-is : segmentOf (cutOf ((e ∷ es) ++ (run ∷ []))) ≡ seg start (l .0) 0
-      whole-is = rw (concat-snoc (e ∷ es) run, lone-snoc e es run, b .is, last-append (b .head ∷ b .tail) x xs, last-joined j, b .first)
-
-      go : (t : Bool)
-          → toList (pick t (Two (seg start (x .0 - 1) (pick (eqb start prev) prevdelta 0)) (seg (x .0) (l .0) (deltaOf (x .0) (x .1)))) (One (seg start (l .0) 0)))
-          ≡ map segmentOf (pick t (cutOf (e ∷ es) ∷ cutOf (run ∷ []) ∷ []) (cutOf ((e ∷ es) ++ (run ∷ [])) ∷ []))
-      go true = rw (part-is, lone-is)
-      go false = rw whole-is
-
--- the earlier runs when the running one joins them and p follows
-earlier-snoc : (start prev prevdelta : ℕ) (earlier : List (List Pair)) {x l : Pair} {xs : List Pair} (p : Pair) → Joined nextCode x xs l → p .0 ≡ l .0 + 1
-    → Earlier start prev prevdelta earlier (x .0) → Earlier start (x .0) (deltaOf (x .0) (x .1)) (earlier ++ ((x ∷ xs) ∷ [])) (p .0)
+concat-filled : (runs : List (List Pair)) → Each Filled runs → present runs ≡ true → Filled (concat runs)
 unfolding concat
-earlier-snoc start prev prevdelta [] {x} {l} {xs} p j e b =
-    let n = length-joined j in
-    record {
-      head = x;
-      tail = xs;
-      is = append-nil (x ∷ xs);
-      first = sym b;
-      last = rw (last-joined j) (sym e);
-      below = omega arith;
-      delta-is = rw (eq-eqb start (x .0) b);
-    }
-earlier-snoc start prev prevdelta (r ∷ rs) {x} {l} {xs} p j e b =
-    let n = length-joined j in
-    let h = b .below in
-    record {
-      head = b .head;
-      tail = b .tail ++ (x ∷ xs);
-      is = concat-snoc (r ∷ rs) (x ∷ xs) ∙ ap (λ (ps : List Pair). ps ++ (x ∷ xs)) (b .is);
-      first = b .first;
-      last = rw (last-append (b .head ∷ b .tail) x xs, last-joined j) (sym e);
-      below = omega arith;
-      delta-is = rw (ne-eqb start (x .0) (λ z. omega arith), lone-snoc r rs (x ∷ xs));
-    }
+concat-filled [] h e = absurd (false-true e)
+concat-filled (run ∷ runs) h e = filled-left run (concat runs) (h .0)
 
--- ---- the rest of the pairs
+module _ (cost : ℕ) (earlier : List (List Pair)) (run : List Pair) where
+  commit-pairs : concat (parts (commitRun cost earlier run)) ≡ concat earlier ++ run
+  unfolding commitRun
+  commit-pairs =
+      by-pick (λ (cs : List Cut). concat (parts cs) ≡ concat earlier ++ run) (both (present earlier) (both (leb 2 (length run)) (reaches cost run)))
+      (cutOf earlier ∷ cutOf (run ∷ []) ∷ []) (cutOf (earlier ++ (run ∷ [])) ∷ [])
+      (λ _. unfold concat in rw (append-nil run, append-nil run))
+      (λ _. unfold concat in append-nil (concat (earlier ++ (run ∷ []))) ∙ concat-snoc earlier run)
 
--- what is left of ranges, the first of them begun
-abbrev cutsFrom : ℕ → List (List Pair) → List (List Pair) → List Cut
-cutsFrom cost earlier [] = []
-cutsFrom cost earlier (range ∷ ranges) = cutRuns cost earlier (runsOf range) ++ concat (map cutRange ranges)
+  commit-filled : Each Filled earlier → Filled run → Each Filled (parts (commitRun cost earlier run))
+  unfolding commitRun
+  commit-filled h f =
+      by-pick (λ (cs : List Cut). Each Filled (parts cs)) (both (present earlier) (both (leb 2 (length run)) (reaches cost run)))
+      (cutOf earlier ∷ cutOf (run ∷ []) ∷ []) (cutOf (earlier ++ (run ∷ [])) ∷ [])
+      (λ e. (concat-filled earlier h (both-left (present earlier) _ e), (unfold concat in filled-left run [] f, tt)))
+      (λ _. (rw (concat-snoc earlier run) (filled-right (concat earlier) run f), tt))
 
-cuts-from : (ranges : List (List Pair)) → concat (map cutRange ranges) ≡ cutsFrom 8 [] ranges
+runs-pairs : (cost : ℕ) (earlier : List (List Pair)) (run : List Pair) (runs : List (List Pair))
+    → concat (parts (cutRuns cost earlier (run ∷ runs))) ≡ concat earlier ++ concat (run ∷ runs)
+unfolding cutRuns concat
+runs-pairs cost earlier run [] = commit-pairs 8 earlier run ∙ rw (append-nil run)
+runs-pairs cost earlier run (next ∷ runs) =
+    by-pick (λ (cs : List Cut). concat (parts cs) ≡ concat earlier ++ concat (run ∷ next ∷ runs)) (reaches cost run)
+    (commitRun cost earlier run ++ cutRuns 16 [] (next ∷ runs)) (cutRuns 16 (earlier ++ (run ∷ [])) (next ∷ runs))
+    (λ _. rw (map-append (λ (x : Cut). x .pairs) (commitRun cost earlier run) (cutRuns 16 [] (next ∷ runs)),
+      concat-append (parts (commitRun cost earlier run)) (parts (cutRuns 16 [] (next ∷ runs))),
+      commit-pairs cost earlier run, runs-pairs 16 [] next runs)
+      (append-assoc (concat earlier) run (concat (next ∷ runs))))
+    (λ _. runs-pairs 16 (earlier ++ (run ∷ [])) next runs ∙ rw (concat-snoc earlier run) (append-assoc (concat earlier) run (concat (next ∷ runs))))
+
+parts-append : (a b : List Cut) → parts (a ++ b) ≡ parts a ++ parts b
+parts-append a b = map-append (λ (x : Cut). x .pairs) a b
+
+runs-filled : (cost : ℕ) (earlier runs : List (List Pair)) → Each Filled earlier → Each Filled runs → Each Filled (parts (cutRuns cost earlier runs))
+unfolding cutRuns
+runs-filled cost earlier [] h f = tt
+runs-filled cost earlier (run ∷ []) h f = commit-filled 8 earlier run h (f .0)
+runs-filled cost earlier (run ∷ next ∷ runs) h f =
+    by-pick (λ (cs : List Cut). Each Filled (parts cs)) (reaches cost run)
+    (commitRun cost earlier run ++ cutRuns 16 [] (next ∷ runs)) (cutRuns 16 (earlier ++ (run ∷ [])) (next ∷ runs))
+    (λ _. rw (parts-append (commitRun cost earlier run) (cutRuns 16 [] (next ∷ runs)))
+      (each-append Filled (parts (commitRun cost earlier run)) (parts (cutRuns 16 [] (next ∷ runs))) (commit-filled cost earlier run h (f .0)) (runs-filled 16 [] (next ∷ runs) tt (f .1))))
+    (λ _. runs-filled 16 (earlier ++ (run ∷ [])) (next ∷ runs) (each-append Filled earlier (run ∷ []) h (f .0, tt)) (f .1))
+
+range-pairs : (range : List Pair) → concat (parts (cutRange range)) ≡ range
+unfolding cutRuns concat
+range-pairs [] = unfold pieces in refl
+range-pairs (p ∷ range) =
+    let f = pieces-first nextGlyph p range in
+    let e : concat (parts (cutRange (p ∷ range))) ≡ concat (runsOf (p ∷ range)) = rw (f .is) (runs-pairs 8 [] (p ∷ f .rest) (f .others)) in
+    e ∙ concat-pieces nextGlyph (p ∷ range)
+
+range-linked : (range : List Pair) → Linked nextCode range → Each (Linked nextCode) (parts (cutRange range))
+range-linked range h =
+    linked-parts nextCode (parts (cutRange range))
+    (runs-filled 8 [] (runsOf range) tt (each-of (Linked nextGlyph) Filled (linked-filled nextGlyph) (runsOf range) (pieces-linked nextGlyph range)))
+    (rw (range-pairs range) h)
+
+ranges-pairs : (ranges : List (List Pair)) → concat (parts (concat (map cutRange ranges))) ≡ concat ranges
 unfolding concat
-cuts-from [] = refl
-cuts-from (range ∷ ranges) = refl
+ranges-pairs [] = refl
+ranges-pairs (range ∷ ranges) =
+    rw (parts-append (cutRange range) (concat (map cutRange ranges)), concat-append (parts (cutRange range)) (parts (concat (map cutRange ranges))),
+      range-pairs range, ranges-pairs ranges)
 
-module _ (cost : ℕ) (earlier : List (List Pair)) {x l : Pair} {xs : List Pair} (jc : Joined nextCode x xs l) (jg : Joined nextGlyph x xs l) where
-  cuts-end : cutsFrom cost earlier (rangesOf ((x ∷ xs) ++ [])) ≡ commitRun 8 earlier (x ∷ xs)
-  unfolding concat cutRuns
-  cuts-end = rw (append-nil xs, pieces-all nextCode jc, pieces-all nextGlyph jg) (append-nil (commitRun 8 earlier (x ∷ xs)))
+ranges-linked : (ranges : List (List Pair)) → Each (Linked nextCode) ranges → Each (Linked nextCode) (parts (concat (map cutRange ranges)))
+unfolding concat
+ranges-linked [] h = tt
+ranges-linked (range ∷ ranges) h =
+    rw (parts-append (cutRange range) (concat (map cutRange ranges)))
+    (each-append (Linked nextCode) (parts (cutRange range)) (parts (concat (map cutRange ranges))) (range-linked range (h .0)) (ranges-linked ranges (h .1)))
 
-  -- a pair that is not adjacent ends the range
-  cuts-jump : (p : Pair) (ps : List Pair) → nextCode l p ≡ false
-      → cutsFrom cost earlier (rangesOf ((x ∷ xs) ++ (p ∷ ps))) ≡ commitRun 8 earlier (x ∷ xs) ++ cutsFrom 8 [] (rangesOf (p ∷ ps))
-  unfolding cutRuns
-  cuts-jump p ps e = rw (pieces-joined nextCode p ps jc e, pieces-all nextGlyph jg, cuts-from (rangesOf (p ∷ ps)))
+-- the cuts are the pairs in parts ..
+pub cuts-pairs : (ps : List Pair) → concat (parts (cuts ps)) ≡ ps
+unfolding cuts
+cuts-pairs ps = ranges-pairs (rangesOf ps) ∙ concat-pieces nextCode ps
 
-  -- an adjacent one whose glyph is not ends the run
-  cuts-turn : (p : Pair) (ps : List Pair) → nextCode l p ≡ true → nextGlyph l p ≡ false
-      → cutsFrom cost earlier (rangesOf ((x ∷ xs) ++ (p ∷ ps)))
-      ≡ pick (reaches cost (x ∷ xs)) (commitRun cost earlier (x ∷ xs) ++ cutsFrom 16 [] (rangesOf (p ∷ ps))) (cutsFrom 16 (earlier ++ ((x ∷ xs) ∷ [])) (rangesOf (p ∷ ps)))
-  unfolding cutRuns
-  cuts-turn p ps e f =
-      let a = pieces-first nextCode p ps in
-      let b = pieces-first nextGlyph p (a .rest) in
-      let runs = (p ∷ b .rest) ∷ b .others in
-      rw (pieces-on nextCode p ps jc e, a .is, pieces-joined nextGlyph p (a .rest) jg f, b .is)
-      (go (reaches cost (x ∷ xs)) (commitRun cost earlier (x ∷ xs)) (cutRuns 16 [] runs) (cutRuns 16 (earlier ++ ((x ∷ xs) ∷ [])) runs) (concat (map cutRange (a .others))))
-    where
-      go : (t : Bool) (a b c d : List Cut) → pick t (a ++ b) c ++ d ≡ pick t (a ++ (b ++ d)) (c ++ d)
-      go true a b c d = append-assoc a b d
-      go false a b c d = refl
+-- .. each of adjacent code points, and none empty
+pub cuts-linked : (ps : List Pair) → Each (Linked nextCode) (parts (cuts ps))
+unfolding cuts
+cuts-linked ps = ranges-linked (rangesOf ps) (pieces-linked nextCode ps)
 
--- the walk over ps goes on with what the definition makes of the earlier runs, the running one and ps
-abbrev Walks : List Pair → Type 0
-Walks ps =
-    (later : Bool) (start prev prevdelta : ℕ) (earlier : List (List Pair)) (x l : Pair) (xs : List Pair)
-    → Joined nextCode x xs l → Joined nextGlyph x xs l → Earlier start prev prevdelta earlier (x .0)
-    → cutFrom (at later start prev prevdelta x l) ps
-    ≡ map segmentOf (cutsFrom (pick later 16 8) earlier (rangesOf ((x ∷ xs) ++ ps))) ++ closing (not (eqb (lastCode (l ∷ ps)) 65535))
+-- ---- the last end
 
--- a commit and what follows it
-commit-then : (a b : List Cut) (out rest ends : List Segment) → out ≡ map segmentOf a → rest ≡ map segmentOf b ++ ends → out ++ rest ≡ map segmentOf (a ++ b) ++ ends
-commit-then a b out rest ends e f = rw (e, f, map-append segmentOf a b) (sym (append-assoc (map segmentOf a) (map segmentOf b) ends))
+last-end : (cs : List Cut) → Each (Linked nextCode) (parts cs) → lastEnd (map segmentOf cs) ≡ lastCode (concat (parts cs))
+unfolding concat
+last-end [] h = refl
+last-end (x ∷ []) h = rw (append-nil (x .pairs))
+last-end (x ∷ y ∷ cs) h =
+    last-end (y ∷ cs) (h .1)
+    ∙ sym (last-append (x .pairs) (concat (parts (y ∷ cs))) (filled-left (y .pairs) (concat (parts cs)) (linked-filled nextCode (y .pairs) (h .1 .0))))
 
-walks-end : Walks []
-unfolding cutFrom finish
-walks-end later start prev prevdelta earlier x l xs jc jg b = rw (commit-is later start prev prevdelta jc 8 earlier b, cuts-end (pick later 16 8) earlier jc jg)
+-- the closing segment follows unless the last pair's code point is 0xFFFF
+pub segments-closed : (ps : List Pair) → segments ps ≡ map segmentOf (cuts ps) ++ closing (not (eqb (lastCode ps) 65535))
+unfolding segments
+segments-closed ps = rw (last-end (cuts ps) (cuts-linked ps), cuts-pairs ps)
 
-module _ (p : Pair) (ps : List Pair) (w : Walks ps) where
-  walks-on : Walks (p ∷ ps)
-  unfolding cutFrom step
-  walks-on later start prev prevdelta earlier x l xs jc jg b =
-      let s = at later start prev prevdelta x l in
-      let cost : ℕ = pick later 16 8 in
-      let ends = closing (not (eqb (lastCode (p ∷ ps)) 65535)) in
-      let P : Absorbed → Type 0 = λ o. toList (o .out) ++ cutFrom (o .state) ps ≡ map segmentOf (cutsFrom cost earlier (rangesOf ((x ∷ xs) ++ (p ∷ ps)))) ++ ends in
-      let begin = absorbed (begun (p .0) (p .1)) (commit s 8) in
-      let grow = absorbed (grown s (p .0) (p .1)) None in
-      let take = absorbed (turned s (p .0) (p .0) (p .1)) (commit s cost) in
-      let wait = absorbed (turned s start (p .0) (p .1)) None in
-      let turn = pick (pays s cost) take wait in
-      by-pick P (nextCode l p) (pick (nextGlyph l p) grow turn) begin
-      (λ e. by-pick P (nextGlyph l p) grow turn
-      (λ f. rw (append-assoc xs (p ∷ []) ps) at (w later start prev prevdelta earlier x p (xs ++ (p ∷ [])) (joined-snoc nextCode p jc e) (joined-snoc nextGlyph p jg f) b))
-      (λ f. by-pick P (pays s cost) take wait
-      (λ t. rw (cuts-turn cost earlier jc jg p ps e f, ← pays-is later start prev prevdelta jc cost, t)
-      (commit-then (commitRun cost earlier (x ∷ xs)) (cutsFrom 16 [] (rangesOf (p ∷ ps))) _ _ ends
-      (commit-is later start prev prevdelta jc cost earlier b) (w true (p .0) (x .0) (deltaOf (x .0) (x .1)) [] p p [] lone lone refl)))
-      (λ t. rw (cuts-turn cost earlier jc jg p ps e f, ← pays-is later start prev prevdelta jc cost, t)
-      (w true start (x .0) (deltaOf (x .0) (x .1)) (earlier ++ ((x ∷ xs) ∷ [])) p p [] lone lone
-      (earlier-snoc start prev prevdelta earlier p jc (eqb-true (p .0) (l .0 + 1) e) b)))))
-      (λ e. rw (cuts-jump cost earlier jc jg p ps e)
-      (commit-then (commitRun 8 earlier (x ∷ xs)) (cutsFrom 8 [] (rangesOf (p ∷ ps))) _ _ ends
-      (commit-is later start prev prevdelta jc 8 earlier b) (w false (p .0) (p .0) 0 [] p p [] lone lone refl)))
+-- ---- the glyph array
 
-walks : (ps : List Pair) → Walks ps
-walks [] = walks-end
-walks (p ∷ ps) = walks-on p ps (walks ps)
+array-cuts : (cs : List Cut) (gs : List ℕ) (ss : List Segment) → Each (Linked nextCode) (parts cs)
+    → arrayFrom (glyphs (concat (parts cs)) ++ gs) (map segmentOf cs ++ ss) ≡ concat (map arrayOf cs) ++ arrayFrom gs ss
+unfolding arrayFrom concat
+array-cuts [] gs ss h = refl
+array-cuts (x ∷ cs) gs ss h =
+    let here = glyphs (x .pairs) in
+    let there = glyphs (concat (parts cs)) ++ gs in
+    let n : length here ≡ length (x .pairs) = length-map (x .pairs) (λ (p : Pair). p .1) in
+    rw (linked-length (x .pairs) (h .0), map-append (λ (p : Pair). p .1) (x .pairs) (concat (parts cs)), append-assoc here (glyphs (concat (parts cs))) gs,
+      take-at here there (length (x .pairs)) n, drop-at here there (length (x .pairs)) n, array-cuts cs gs ss (h .1))
+    (go (eqb (x .delta) 0) here (concat (map arrayOf cs)) (arrayFrom gs ss))
+  where
+    go : (t : Bool) (a b c : List ℕ) → pick t (a ++ (b ++ c)) (b ++ c) ≡ (pick t a [] ++ b) ++ c
+    go true a b c = sym (append-assoc a b c)
+    go false a b c = refl
 
-walk-from-idle : (ps : List Pair) → map segmentOf (cuts ps) ++ closing (not (eqb (lastCode ps) 65535)) ≡ cutFrom idle ps
-unfolding cutFrom step finish cuts
-walk-from-idle [] = unfold concat pieces in refl
-walk-from-idle (p ∷ ps) = rw (cuts-from (rangesOf (p ∷ ps))) (sym (walks ps false (p .0) (p .0) 0 [] p p [] lone lone refl))
+array-closing : (t : Bool) → arrayFrom [] (closing t) ≡ []
+unfolding arrayFrom
+array-closing true = refl
+array-closing false = refl
+
+-- walking the segments over the listed glyphs finds the glyph array
+pub array-from : (ps : List Pair) → arrayFrom (glyphs ps) (segments ps) ≡ glyphArray ps
+unfolding glyphArray
+array-from ps =
+    let gs = glyphs (concat (parts (cuts ps))) in
+    let t = not (eqb (lastCode ps) 65535) in
+    rw (segments-closed ps)
+    (ap (λ (qs : List Pair). arrayFrom (glyphs qs) (map segmentOf (cuts ps) ++ closing t)) (sym (cuts-pairs ps))
+    ∙ ap (λ (l : List ℕ). arrayFrom l (map segmentOf (cuts ps) ++ closing t)) (sym (append-nil gs))
+    ∙ array-cuts (cuts ps) [] (closing t) (cuts-linked ps)
+    ∙ ap (λ (l : List ℕ). concat (map arrayOf (cuts ps)) ++ l) (array-closing t)
+    ∙ append-nil (concat (map arrayOf (cuts ps))))
+
+-- ---- how many entries
+
+entries-cuts : (cs : List Cut) (ss : List Segment) → Each (Linked nextCode) (parts cs) → length (concat (map arrayOf cs)) + entries ss ≡ entries (map segmentOf cs ++ ss)
+unfolding concat
+entries-cuts [] ss h = zero-add (entries ss)
+entries-cuts (x ∷ cs) ss h =
+    rw (length-append (arrayOf x) (concat (map arrayOf cs)), ← entries-cuts cs ss (h .1), linked-length (x .pairs) (h .0))
+    (go (eqb (x .delta) 0) (glyphs (x .pairs)) (length (x .pairs)) (length (concat (map arrayOf cs))) (length-map (x .pairs) (λ (p : Pair). p .1)))
+  where
+    go : (t : Bool) (gs : List ℕ) (n k : ℕ) → length gs ≡ n → length (pick t gs []) + k + entries ss ≡ pick t n 0 + (k + entries ss)
+    go true gs n k e = omega arith
+    go false gs n k e = omega arith
+
+entries-closing : (t : Bool) → entries (closing t) ≡ 0
+entries-closing true = refl
+entries-closing false = refl
+
+pub length-array : (ps : List Pair) → length (glyphArray ps) ≡ entries (segments ps)
+unfolding glyphArray
+length-array ps =
+    let t = not (eqb (lastCode ps) 65535) in
+    let e = entries-cuts (cuts ps) (closing t) (cuts-linked ps) in
+    rw segments-closed (omega (arith, entries-closing t))
