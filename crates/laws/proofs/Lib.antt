@@ -4,4 +4,6 @@ pub mod SetsLaws
 pub mod RisingLaws
 pub mod PiecesLaws
 pub mod PiecesFirstLaws
+pub mod EachLaws
 pub mod LinkedLaws
+pub mod RisingEachLaws

@@ -6,14 +6,6 @@ use Rattle.laws.specs.Choice.{pick}
 use Rattle.laws.specs.Pieces.{onto, pieces, concat}
 use Rattle.laws.specs.Linked.{Each, Filled, Linked}
 
-pub each-append : {A : Type 0} (P : A → Type 0) (xs ys : List A) → Each P xs → Each P ys → Each P (xs ++ ys)
-each-append P [] ys a b = b
-each-append P (x ∷ xs) ys a b = (a .0, each-append P xs ys (a .1) b)
-
-pub each-of : {A : Type 0} (P Q : A → Type 0) (f : (x : A) → P x → Q x) (xs : List A) → Each P xs → Each Q xs
-each-of P Q f [] a = tt
-each-of P Q f (x ∷ xs) a = (f x (a .0), each-of P Q f xs (a .1))
-
 pub filled-left : {A : Type 0} (xs ys : List A) → Filled xs → Filled (xs ++ ys)
 filled-left [] ys h = absurd h
 filled-left (x ∷ xs) ys h = tt

@@ -16,7 +16,8 @@ use Rattle.laws.specs.Linked.{Each, Filled, Linked}
 use Rattle.laws.proofs.ChoiceLaws.{by-pick, both-left, false-true}
 use Rattle.laws.proofs.PiecesLaws.{concat-append, concat-pieces}
 use Rattle.laws.proofs.PiecesFirstLaws.{First, pieces-first}
-use Rattle.laws.proofs.LinkedLaws.{each-append, each-of, filled-left, filled-right, linked-filled, pieces-linked, linked-parts}
+use Rattle.laws.proofs.EachLaws.{each-append, each-of, each-map, each-mapped, each-concat}
+use Rattle.laws.proofs.LinkedLaws.{filled-left, linked-filled, pieces-linked, linked-parts}
 use Rattle.ranges.specs.declared.Segment.{Segment}
 use Rattle.ranges.specs.Steps.{closing, entries, entriesOf}
 use Rattle.ranges.specs.Cutting.{nextCode, nextGlyph, rangesOf, runsOf, reaches, Cut, cutOf, present, commitRun, cutRuns, cutRange, cuts, firstCode, lastCode, segmentOf, lastEnd, closed, segments, glyphs, arrayOf, glyphArray, arrayFrom}
@@ -47,27 +48,16 @@ linked-length ps h = let e = linked-last ps h in omega arith
 abbrev pub parts : List Cut → List (List Pair)
 parts cs = map (λ (x : Cut). x .pairs) cs
 
-concat-filled : (runs : List (List Pair)) → Each Filled runs → present runs ≡ true → Filled (concat runs)
-unfolding concat
-concat-filled [] h e = absurd (false-true e)
-concat-filled (run ∷ runs) h e = filled-left run (concat runs) (h .0)
+commit-pairs : (cost : ℕ) (earlier : List (List Pair)) (run : List Pair) → concat (parts (commitRun cost earlier run)) ≡ concat earlier ++ run
+unfolding commitRun concat
+commit-pairs cost earlier run =
+    by-pick (λ (cs : List Cut). concat (parts cs) ≡ concat earlier ++ run) (both (present earlier) (both (leb 2 (length run)) (reaches cost run)))
+    (cutOf earlier ∷ cutOf (run ∷ []) ∷ []) (cutOf (earlier ++ (run ∷ [])) ∷ [])
+    (λ _. rw (append-nil run, append-nil run))
+    (λ _. append-nil (concat (earlier ++ (run ∷ []))) ∙ concat-snoc earlier run)
 
-module _ (cost : ℕ) (earlier : List (List Pair)) (run : List Pair) where
-  commit-pairs : concat (parts (commitRun cost earlier run)) ≡ concat earlier ++ run
-  unfolding commitRun
-  commit-pairs =
-      by-pick (λ (cs : List Cut). concat (parts cs) ≡ concat earlier ++ run) (both (present earlier) (both (leb 2 (length run)) (reaches cost run)))
-      (cutOf earlier ∷ cutOf (run ∷ []) ∷ []) (cutOf (earlier ++ (run ∷ [])) ∷ [])
-      (λ _. unfold concat in rw (append-nil run, append-nil run))
-      (λ _. unfold concat in append-nil (concat (earlier ++ (run ∷ []))) ∙ concat-snoc earlier run)
-
-  commit-filled : Each Filled earlier → Filled run → Each Filled (parts (commitRun cost earlier run))
-  unfolding commitRun
-  commit-filled h f =
-      by-pick (λ (cs : List Cut). Each Filled (parts cs)) (both (present earlier) (both (leb 2 (length run)) (reaches cost run)))
-      (cutOf earlier ∷ cutOf (run ∷ []) ∷ []) (cutOf (earlier ++ (run ∷ [])) ∷ [])
-      (λ e. (concat-filled earlier h (both-left (present earlier) _ e), (unfold concat in filled-left run [] f, tt)))
-      (λ _. (rw (concat-snoc earlier run) (filled-right (concat earlier) run f), tt))
+parts-append : (a b : List Cut) → concat (parts (a ++ b)) ≡ concat (parts a) ++ concat (parts b)
+parts-append a b = rw (map-append (λ (x : Cut). x .pairs) a b) (concat-append (parts a) (parts b))
 
 runs-pairs : (cost : ℕ) (earlier : List (List Pair)) (run : List Pair) (runs : List (List Pair))
     → concat (parts (cutRuns cost earlier (run ∷ runs))) ≡ concat earlier ++ concat (run ∷ runs)
@@ -76,25 +66,9 @@ runs-pairs cost earlier run [] = commit-pairs 8 earlier run ∙ rw (append-nil r
 runs-pairs cost earlier run (next ∷ runs) =
     by-pick (λ (cs : List Cut). concat (parts cs) ≡ concat earlier ++ concat (run ∷ next ∷ runs)) (reaches cost run)
     (commitRun cost earlier run ++ cutRuns 16 [] (next ∷ runs)) (cutRuns 16 (earlier ++ (run ∷ [])) (next ∷ runs))
-    (λ _. rw (map-append (λ (x : Cut). x .pairs) (commitRun cost earlier run) (cutRuns 16 [] (next ∷ runs)),
-      concat-append (parts (commitRun cost earlier run)) (parts (cutRuns 16 [] (next ∷ runs))),
-      commit-pairs cost earlier run, runs-pairs 16 [] next runs)
-      (append-assoc (concat earlier) run (concat (next ∷ runs))))
+    (λ _. rw (parts-append (commitRun cost earlier run) (cutRuns 16 [] (next ∷ runs)), commit-pairs cost earlier run, runs-pairs 16 [] next runs)
+    (append-assoc (concat earlier) run (concat (next ∷ runs))))
     (λ _. runs-pairs 16 (earlier ++ (run ∷ [])) next runs ∙ rw (concat-snoc earlier run) (append-assoc (concat earlier) run (concat (next ∷ runs))))
-
-parts-append : (a b : List Cut) → parts (a ++ b) ≡ parts a ++ parts b
-parts-append a b = map-append (λ (x : Cut). x .pairs) a b
-
-runs-filled : (cost : ℕ) (earlier runs : List (List Pair)) → Each Filled earlier → Each Filled runs → Each Filled (parts (cutRuns cost earlier runs))
-unfolding cutRuns
-runs-filled cost earlier [] h f = tt
-runs-filled cost earlier (run ∷ []) h f = commit-filled 8 earlier run h (f .0)
-runs-filled cost earlier (run ∷ next ∷ runs) h f =
-    by-pick (λ (cs : List Cut). Each Filled (parts cs)) (reaches cost run)
-    (commitRun cost earlier run ++ cutRuns 16 [] (next ∷ runs)) (cutRuns 16 (earlier ++ (run ∷ [])) (next ∷ runs))
-    (λ _. rw (parts-append (commitRun cost earlier run) (cutRuns 16 [] (next ∷ runs)))
-      (each-append Filled (parts (commitRun cost earlier run)) (parts (cutRuns 16 [] (next ∷ runs))) (commit-filled cost earlier run h (f .0)) (runs-filled 16 [] (next ∷ runs) tt (f .1))))
-    (λ _. runs-filled 16 (earlier ++ (run ∷ [])) (next ∷ runs) (each-append Filled earlier (run ∷ []) h (f .0, tt)) (f .1))
 
 range-pairs : (range : List Pair) → concat (parts (cutRange range)) ≡ range
 unfolding cutRuns concat
@@ -104,39 +78,68 @@ range-pairs (p ∷ range) =
     let e : concat (parts (cutRange (p ∷ range))) ≡ concat (runsOf (p ∷ range)) = rw (f .is) (runs-pairs 8 [] (p ∷ f .rest) (f .others)) in
     e ∙ concat-pieces nextGlyph (p ∷ range)
 
-range-linked : (range : List Pair) → Linked nextCode range → Each (Linked nextCode) (parts (cutRange range))
-range-linked range h =
-    linked-parts nextCode (parts (cutRange range))
-    (runs-filled 8 [] (runsOf range) tt (each-of (Linked nextGlyph) Filled (linked-filled nextGlyph) (runsOf range) (pieces-linked nextGlyph range)))
-    (rw (range-pairs range) h)
-
 ranges-pairs : (ranges : List (List Pair)) → concat (parts (concat (map cutRange ranges))) ≡ concat ranges
 unfolding concat
 ranges-pairs [] = refl
-ranges-pairs (range ∷ ranges) =
-    rw (parts-append (cutRange range) (concat (map cutRange ranges)), concat-append (parts (cutRange range)) (parts (concat (map cutRange ranges))),
-      range-pairs range, ranges-pairs ranges)
+ranges-pairs (range ∷ ranges) = rw (parts-append (cutRange range) (concat (map cutRange ranges)), range-pairs range, ranges-pairs ranges)
 
-ranges-linked : (ranges : List (List Pair)) → Each (Linked nextCode) ranges → Each (Linked nextCode) (parts (concat (map cutRange ranges)))
-unfolding concat
-ranges-linked [] h = tt
-ranges-linked (range ∷ ranges) h =
-    rw (parts-append (cutRange range) (concat (map cutRange ranges)))
-    (each-append (Linked nextCode) (parts (cutRange range)) (parts (concat (map cutRange ranges))) (range-linked range (h .0)) (ranges-linked ranges (h .1)))
-
--- the cuts are the pairs in parts ..
+-- the cuts are the pairs in parts
 pub cuts-pairs : (ps : List Pair) → concat (parts (cuts ps)) ≡ ps
 unfolding cuts
 cuts-pairs ps = ranges-pairs (rangesOf ps) ∙ concat-pieces nextCode ps
 
--- .. each of adjacent code points, and none empty
-pub cuts-linked : (ps : List Pair) → Each (Linked nextCode) (parts (cuts ps))
+-- ---- what holds of each cut
+
+present-snoc : (runs : List (List Pair)) (run : List Pair) → present (runs ++ (run ∷ [])) ≡ true
+present-snoc [] run = refl
+present-snoc (r ∷ runs) run = refl
+
+-- what holds of any good runs as one cut holds of each cut that good runs give
+module _ (Good : List Pair → Type 0) (P : Cut → Type 0) (f : (runs : List (List Pair)) → present runs ≡ true → Each Good runs → P (cutOf runs)) where
+  commit-each : (cost : ℕ) (earlier : List (List Pair)) (run : List Pair) → Each Good earlier → Good run → Each P (commitRun cost earlier run)
+  unfolding commitRun
+  commit-each cost earlier run h g =
+      by-pick (Each P) (both (present earlier) (both (leb 2 (length run)) (reaches cost run))) (cutOf earlier ∷ cutOf (run ∷ []) ∷ []) (cutOf (earlier ++ (run ∷ [])) ∷ [])
+      (λ e. (f earlier (both-left (present earlier) _ e) h, (f (run ∷ []) refl (g, tt), tt)))
+      (λ _. (f (earlier ++ (run ∷ [])) (present-snoc earlier run) (each-append Good earlier (run ∷ []) h (g, tt)), tt))
+
+  pub runs-each : (cost : ℕ) (earlier runs : List (List Pair)) → Each Good earlier → Each Good runs → Each P (cutRuns cost earlier runs)
+  unfolding cutRuns
+  runs-each cost earlier [] h g = tt
+  runs-each cost earlier (run ∷ []) h g = commit-each 8 earlier run h (g .0)
+  runs-each cost earlier (run ∷ next ∷ runs) h g =
+      by-pick (Each P) (reaches cost run) (commitRun cost earlier run ++ cutRuns 16 [] (next ∷ runs)) (cutRuns 16 (earlier ++ (run ∷ [])) (next ∷ runs))
+      (λ _. each-append P (commitRun cost earlier run) (cutRuns 16 [] (next ∷ runs)) (commit-each cost earlier run h (g .0)) (runs-each 16 [] (next ∷ runs) tt (g .1)))
+      (λ _. runs-each 16 (earlier ++ (run ∷ [])) (next ∷ runs) (each-append Good earlier (run ∷ []) h (g .0, tt)) (g .1))
+
+pub cuts-each : (P : Cut → Type 0) (ps : List Pair) → Each (λ (range : List Pair). Each P (cutRange range)) (rangesOf ps) → Each P (cuts ps)
 unfolding cuts
-cuts-linked ps = ranges-linked (rangesOf ps) (pieces-linked nextCode ps)
+cuts-each P ps h = each-concat P cutRange (rangesOf ps) h
+
+-- a cut's code points are adjacent, and there is one
+abbrev pub Adjacent : Cut → Type 0
+Adjacent x = Linked nextCode (x .pairs)
+
+runs-filled : (runs : List (List Pair)) → present runs ≡ true → Each Filled runs → Filled (concat runs)
+unfolding concat
+runs-filled [] e h = absurd (false-true e)
+runs-filled (run ∷ runs) e h = filled-left run (concat runs) (h .0)
+
+range-adjacent : (range : List Pair) → Linked nextCode range → Each Adjacent (cutRange range)
+range-adjacent range h =
+    let g = each-of (Linked nextGlyph) Filled (linked-filled nextGlyph) (runsOf range) (pieces-linked nextGlyph range) in
+    each-mapped (Linked nextCode) (λ (x : Cut). x .pairs) (cutRange range)
+    (linked-parts nextCode (parts (cutRange range))
+    (each-map Filled (λ (x : Cut). x .pairs) (cutRange range) (runs-each Filled (λ (x : Cut). Filled (x .pairs)) runs-filled 8 [] (runsOf range) tt g))
+    (rw (range-pairs range) h))
+
+pub cuts-adjacent : (ps : List Pair) → Each Adjacent (cuts ps)
+cuts-adjacent ps =
+    cuts-each Adjacent ps (each-of (Linked nextCode) (λ (range : List Pair). Each Adjacent (cutRange range)) range-adjacent (rangesOf ps) (pieces-linked nextCode ps))
 
 -- ---- the last end
 
-last-end : (cs : List Cut) → Each (Linked nextCode) (parts cs) → lastEnd (map segmentOf cs) ≡ lastCode (concat (parts cs))
+last-end : (cs : List Cut) → Each Adjacent cs → lastEnd (map segmentOf cs) ≡ lastCode (concat (parts cs))
 unfolding concat
 last-end [] h = refl
 last-end (x ∷ []) h = rw (append-nil (x .pairs))
@@ -147,11 +150,11 @@ last-end (x ∷ y ∷ cs) h =
 -- the closing segment follows unless the last pair's code point is 0xFFFF
 pub segments-closed : (ps : List Pair) → segments ps ≡ map segmentOf (cuts ps) ++ closing (not (eqb (lastCode ps) 65535))
 unfolding segments
-segments-closed ps = rw (last-end (cuts ps) (cuts-linked ps), cuts-pairs ps)
+segments-closed ps = rw (last-end (cuts ps) (cuts-adjacent ps), cuts-pairs ps)
 
 -- ---- the glyph array
 
-array-cuts : (cs : List Cut) (gs : List ℕ) (ss : List Segment) → Each (Linked nextCode) (parts cs)
+array-cuts : (cs : List Cut) (gs : List ℕ) (ss : List Segment) → Each Adjacent cs
     → arrayFrom (glyphs (concat (parts cs)) ++ gs) (map segmentOf cs ++ ss) ≡ concat (map arrayOf cs) ++ arrayFrom gs ss
 unfolding arrayFrom concat
 array-cuts [] gs ss h = refl
@@ -181,13 +184,13 @@ array-from ps =
     rw (segments-closed ps)
     (ap (λ (qs : List Pair). arrayFrom (glyphs qs) (map segmentOf (cuts ps) ++ closing t)) (sym (cuts-pairs ps))
     ∙ ap (λ (l : List ℕ). arrayFrom l (map segmentOf (cuts ps) ++ closing t)) (sym (append-nil gs))
-    ∙ array-cuts (cuts ps) [] (closing t) (cuts-linked ps)
+    ∙ array-cuts (cuts ps) [] (closing t) (cuts-adjacent ps)
     ∙ ap (λ (l : List ℕ). concat (map arrayOf (cuts ps)) ++ l) (array-closing t)
     ∙ append-nil (concat (map arrayOf (cuts ps))))
 
 -- ---- how many entries
 
-entries-cuts : (cs : List Cut) (ss : List Segment) → Each (Linked nextCode) (parts cs) → length (concat (map arrayOf cs)) + entries ss ≡ entries (map segmentOf cs ++ ss)
+entries-cuts : (cs : List Cut) (ss : List Segment) → Each Adjacent cs → length (concat (map arrayOf cs)) + entries ss ≡ entries (map segmentOf cs ++ ss)
 unfolding concat
 entries-cuts [] ss h = zero-add (entries ss)
 entries-cuts (x ∷ cs) ss h =
@@ -206,5 +209,5 @@ pub length-array : (ps : List Pair) → length (glyphArray ps) ≡ entries (segm
 unfolding glyphArray
 length-array ps =
     let t = not (eqb (lastCode ps) 65535) in
-    let e = entries-cuts (cuts ps) (closing t) (cuts-linked ps) in
+    let e = entries-cuts (cuts ps) (closing t) (cuts-adjacent ps) in
     rw segments-closed (omega (arith, entries-closing t))
