@@ -6,3 +6,7 @@ pub mod PiecesLaws
 pub mod SomeLaws
 pub mod StandsLaws
 pub mod EitherLaws
+pub mod PiecesFirstLaws
+pub mod EachLaws
+pub mod LinkedLaws
+pub mod RisingEachLaws

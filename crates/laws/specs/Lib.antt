@@ -3,3 +3,4 @@ pub mod Search
 pub mod Lists
 pub mod Pieces
 pub mod Select
+pub mod Linked

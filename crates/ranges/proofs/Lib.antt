@@ -1,1 +1,3 @@
 pub mod StepsLaws
+pub mod CuttingLaws
+pub mod WalkLaws
