@@ -97,29 +97,29 @@ module _ (P : ℕ → List Segment → Type 0) (close : (t : Bool) → P 0 (clos
 
 -- ---- the glyphs
 
--- k glyphs are enough for the segments of delta 0
+-- k glyphs are enough for the segments of delta 0, and no segment but the closing one takes more
 abbrev pub Fed : ℕ → List Segment → Type 0
 Fed k [] = Unit {0}
-Fed k (x ∷ xs) = (entriesOf x ≤ k) × Fed (k - points x) xs
+Fed k (x ∷ xs) = (entriesOf x ≤ k) × (points x ≤ k + 1) × Fed (k - points x) xs
 
 pub entries-points : (x : Segment) → entriesOf x ≤ points x
 entries-points x = by-pick (λ (n : ℕ). n ≤ points x) (eqb (x .delta) 0) (points x) 0 (λ _. omega arith) (λ _. omega arith)
 
 close-fed : (t : Bool) → Fed 0 (closing t)
-close-fed true = (omega arith, tt)
+close-fed true = (omega arith, omega arith, tt)
 close-fed false = tt
 
 before-fed : (x : Segment) (k m : ℕ) (rest : List Segment) → points x ≡ k → 1 ≤ k → Fed m rest → Fed (k + m) (x ∷ rest)
 before-fed x k m rest e h f =
     let z : m ≡ k + m - points x = omega arith in
-    (omega (arith, entries-points x), subst (λ (n : ℕ). Fed n rest) z f)
+    (omega (arith, entries-points x), omega arith, subst (λ (n : ℕ). Fed n rest) z f)
 
 pub segments-fed : (ps : List Pair) → Fed (length ps) (segmentsOf ps)
 segments-fed = segments-share Fed close-fed before-fed
 
 pub entries-fed : (ss : List Segment) (k : ℕ) → Fed k ss → entries ss ≤ k
 entries-fed [] k f = omega arith
-entries-fed (x ∷ xs) k f = omega (arith, f .0, entries-points x, entries-fed xs (k - points x) (f .1))
+entries-fed (x ∷ xs) k f = omega (arith, f .0, entries-points x, entries-fed xs (k - points x) (f .2))
 
 -- ---- the segments
 

@@ -23,7 +23,7 @@ length-offsets before (x ∷ xs) = ap suc (length-offsets (before + entriesOf x)
 pub length-array : (gs : List ℕ) (ss : List Segment) → Fed (length gs) ss → length (arrayFrom gs ss) ≡ entries ss
 unfolding arrayFrom
 length-array gs [] f = refl
-length-array gs (x ∷ xs) f = go (eqb (x .delta) 0) (f .0) (length-array (drop (points x) gs) xs (rw (length-drop (points x) gs) (f .1)))
+length-array gs (x ∷ xs) f = go (eqb (x .delta) 0) (f .0) (length-array (drop (points x) gs) xs (rw (length-drop (points x) gs) (f .2)))
   where
     n : ℕ
     n = points x

@@ -6,6 +6,7 @@ ghost use mathlib.Core.Path.{_≡_};
 ghost use Prim.Native.Nat.{_+_, _*_, _≤_, _<_};
 ghost use Rattle.laws.specs.Lists.{pairs};
 ghost use Rattle.ranges.specs.Steps.{toList, entriesOf};
+ghost use Rattle.format4.specs.Format4.{points};
 ghost use Rattle.format4.specs.Size.{Columns, Below, counter, counted, Counts, lengthOf, sizeOf};
 
 pub struct RangeCounter {
@@ -20,14 +21,22 @@ pub enum Size {
     Fits(RangeCounter),
 }
 
-// How many entries of the glyph array a segment has.
+// How many code points a segment has.
+pub fn points_of(x: Segment) -> usize
+    ensures { λ r. ⌜ (r ≡ points x) × (r ≤ 65536) ⌝ }
+{
+    if x.start <= x.end {
+        return x.end as usize - x.start as usize + 1;
+    }
+    0
+}
+
+// How many entries of the glyph array it has.
 pub fn entries_of(x: Segment) -> usize
     ensures { λ r. ⌜ (r ≡ entriesOf x) × (r ≤ 65536) ⌝ }
 {
     if x.delta == 0 {
-        if x.start <= x.end {
-            return x.end as usize - x.start as usize + 1;
-        }
+        return points_of(x);
     }
     0
 }
