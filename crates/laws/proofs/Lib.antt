@@ -10,3 +10,4 @@ pub mod PiecesFirstLaws
 pub mod EachLaws
 pub mod LinkedLaws
 pub mod RisingEachLaws
+pub mod RunsLaws

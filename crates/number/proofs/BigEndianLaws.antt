@@ -50,7 +50,7 @@ unfolding enc
 length-enc zero n = refl
 length-enc (suc w) n = rw (length-append, length-enc w (n / 256)) (omega arith)
 
-pow-pos : (w : ℕ) → 0 < 256 ^ w
+pub pow-pos : (w : ℕ) → 0 < 256 ^ w
 pow-pos w = omega (arith, be-lt w [] 0 (λ i. omega arith))
 
 -- the number of the bytes of n, and the bytes of a number

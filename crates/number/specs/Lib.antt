@@ -1,2 +1,3 @@
 pub mod BigEndian
 pub mod Limits
+pub mod Row

@@ -1,0 +1,102 @@
+-- Counting segment by segment: the loop's invariant, and a rule for each way on.
+use Prim.Native.Nat.{ℕ, _+_, _*_, _≤_, _<_}
+use mathlib.Core.Path.{_≡_, refl, sym, ap, ap₂, _∙_}
+use mathlib.Core.List.{List, [], _∷_, _++_}
+use mathlib.Core.Bool.{Bool, true, false}
+use native.Mathlib.Nat.{add-assoc, add-zero, zero-add}
+use native.Mathlib.Omega.{arith}
+use lib.Dec.{leb}
+use borrow.Author.Tests.{le-leb, lt-leb}
+use Rattle.laws.specs.Choice.{pick}
+use lib.ListN.{length, getD, drop, length-append}
+use Rattle.laws.specs.Lists.{Pair, pairs}
+use Rattle.ranges.specs.declared.Segment.{Segment}
+use Rattle.ranges.specs.declared.RangeState.{RangeState}
+use Rattle.ranges.specs.declared.Absorbed.{Absorbed}
+use Rattle.ranges.specs.declared.Finished.{Finished}
+use Rattle.ranges.specs.Steps.{seg, entriesOf, idle, step, finish, toList, closing, cutFrom, entries}
+use Rattle.ranges.proofs.StepsLaws.{entries-append, sink-step, sink-end}
+use Rattle.format4.specs.declared.RangeCounter.{RangeCounter}
+use Rattle.format4.specs.Format4.{segmentsOf}
+use Rattle.format4.specs.declared.Size.the-variants.{Empty, TooLong, Fits}
+use Rattle.format4.specs.Size.{Columns, Below, Counts, counter, counted, countOf, lengthOf, sizeOf}
+use Rattle.format4.proofs.CutLaws.{segments-cut}
+use Rattle.format4.proofs.Format4Laws.{length-arrayOf}
+
+pub counted-none : (n : RangeCounter) → counted n [] ≡ n
+counted-none n = simp add-zero
+
+counted-append : (n : RangeCounter) (a b : List Segment) → counted n (a ++ b) ≡ counted (counted n a) b
+counted-append n a b = simp (length-append, entries-append, add-assoc)
+
+count-is : (ps : List Pair) → counted (counter 0 0) (cutFrom idle ps) ≡ countOf ps
+count-is ps = rw (segments-cut ps, zero-add (length (segmentsOf ps)), zero-add (entries (segmentsOf ps)), length-arrayOf ps)
+
+-- i pairs are walked; what is left, counted from here, gives the whole
+pub record Counting (cs gs : List ℕ) (s : RangeState) (n : RangeCounter) (i : ℕ) : Type 0 where
+  pub within : i ≤ length cs
+  pub segments : n .segments ≤ 2 * i
+  pub glyphs : n .glyphs ≤ 131072 * i
+  pub left : counted n (cutFrom s (pairs (drop i cs) (drop i gs))) ≡ countOf (pairs cs gs)
+
+pub counting-start : (cs gs : List ℕ) (s : RangeState) (n : RangeCounter) → s ≡ idle → n ≡ counter 0 0 → Counting cs gs s n 0
+counting-start cs gs s n e f = rw (e, f) (record { within = omega arith; segments = omega arith; glyphs = omega arith; left = count-is (pairs cs gs) })
+
+pub counting-on : (cs gs : List ℕ) (s : RangeState) (n : RangeCounter) (i : ℕ) (a : Absorbed) (m : RangeCounter)
+    → Columns cs gs → Counting cs gs s n i → i < length cs → a ≡ step s (getD cs i 0) (getD gs i 0)
+    → (m ≡ counted n (toList (a .out))) × ((m .segments ≤ n .segments + 2) × (m .glyphs ≤ n .glyphs + 131072)) → Counting cs gs (a .state) m (i + 1)
+counting-on cs gs s n i a m k l h e t = record {
+  within = omega arith;
+  segments = omega (arith, l .segments, t .1 .0);
+  glyphs = omega (arith, l .glyphs, t .1 .1);
+  left = sink-step counted counted-append s cs gs i a n m h (omega (arith, k .even)) e (t .0) ∙ l .left;
+}
+
+module _ (cs gs : List ℕ) (s : RangeState) (n : RangeCounter) (i : ℕ) (f : Finished) (m : RangeCounter)
+    (k : Columns cs gs) (l : Counting cs gs s n i) (h : length cs ≤ i) (e : f ≡ finish s)
+    (t : (m ≡ counted n (toList (f .out))) × ((m .segments ≤ n .segments + 2) × (m .glyphs ≤ n .glyphs + 131072))) where
+  ended : counted m (closing (f .close)) ≡ countOf (pairs cs gs)
+  ended = sink-end counted counted-append s cs gs i f n m h e (t .0) ∙ l .left
+
+  pub counting-open : f .close ≡ false → Counts (pairs cs gs) m
+  counting-open q = record {
+    is = sym (counted-none m) ∙ ap (λ (b : Bool). counted m (closing b)) (sym q) ∙ ended;
+    below = record { segments = omega (arith, l .segments, l .within, k .few, t .1 .0); glyphs = omega (arith, l .glyphs, l .within, k .few, t .1 .1) };
+  }
+
+  pub counting-closed : (r : RangeCounter) → f .close ≡ true
+      → (r ≡ counter (m .segments + 1) (m .glyphs + entriesOf (seg 65535 65535 1))) × (r .glyphs ≤ m .glyphs + 65536)
+      → Counts (pairs cs gs) r
+  counting-closed r q u = record {
+    is = u .0 ∙ ap (λ (b : Bool). counted m (closing b)) (sym q) ∙ ended;
+    below = record { segments = rw (u .0) (omega (arith, l .segments, l .within, k .few, t .1 .0)); glyphs = omega (arith, l .glyphs, l .within, k .few, t .1 .1, u .1) };
+  }
+
+pub ruleset counting = (counting-start, counting-on, counting-open, counting-closed)
+
+-- ---- the size
+
+size-some : (cs gs : List ℕ) → length cs ≡ length gs → (length cs ≡ 0 → ⊥)
+    → pick (leb (lengthOf (countOf (pairs cs gs))) 65535) (Fits (countOf (pairs cs gs))) TooLong ≡ sizeOf (pairs cs gs)
+unfolding sizeOf
+size-some [] gs e h = absurd (h refl)
+size-some (c ∷ cs) [] e h = absurd (omega arith)
+size-some (c ∷ cs) (g ∷ gs) e h = refl
+
+pub size-empty : (cs gs : List ℕ) → length cs ≡ 0 → Empty ≡ sizeOf (pairs cs gs)
+unfolding sizeOf
+size-empty [] gs h = refl
+size-empty (c ∷ cs) gs h = absurd (omega arith)
+
+module _ (cs gs : List ℕ) (n : RangeCounter) (l : ℕ) (k : Columns cs gs) (h : length cs ≡ 0 → ⊥)
+    (q : Counts (pairs cs gs) n) (e : l ≡ lengthOf n) where
+  same : lengthOf n ≡ lengthOf (countOf (pairs cs gs))
+  same = ap lengthOf (q .is)
+
+  pub size-fits : l ≤ 65535 → Fits n ≡ sizeOf (pairs cs gs)
+  size-fits b = ap Fits (q .is) ∙ rw (le-leb (lengthOf (countOf (pairs cs gs))) 65535 (omega (arith, same))) at (size-some cs gs (k .even) h)
+
+  pub size-long : 65535 < l → TooLong ≡ sizeOf (pairs cs gs)
+  size-long b = rw (lt-leb (lengthOf (countOf (pairs cs gs))) 65535 (omega (arith, same))) at (size-some cs gs (k .even) h)
+
+pub ruleset sizing = (size-empty, size-fits, size-long)

@@ -1,0 +1,63 @@
+-- The lengths of a format 4 subtable's parts, and of its bytes.
+use Prim.Native.Nat.{ℕ, zero, suc, _+_, _-_, _*_, _≤_, _<_}
+use mathlib.Core.Path.{_≡_, refl, sym, ap, subst, _∙_}
+use mathlib.Core.List.{List, [], _∷_, _++_, map}
+use mathlib.Core.Bool.{Bool, true, false}
+use native.Mathlib.Omega.{arith}
+use lib.Dec.{eqb}
+use lib.ListN.{length, take, drop, length-append, length-map, length-drop}
+use lib.Seq.{length-take-le}
+use Rattle.laws.specs.Choice.{pick}
+use Rattle.laws.specs.Lists.{Pair, pairs}
+use Rattle.number.proofs.RowLaws.{length-encs}
+use Rattle.ranges.specs.declared.Segment.{Segment}
+use Rattle.ranges.specs.Steps.{entriesOf, entries}
+use Rattle.format4.specs.Format4.{points, segmentsOf, arrayFrom, arrayOf, glyphOf, offsetsFrom, lengthWith, header, endOf, startOf, deltaOf, columns, numbers, format4}
+use Rattle.format4.proofs.CutLaws.{Fed, segments-fed, entries-fed, segments-few}
+
+pub length-offsets : (before : ℕ) (ss : List Segment) → length (offsetsFrom before ss) ≡ length ss
+unfolding offsetsFrom
+length-offsets before [] = refl
+length-offsets before (x ∷ xs) = ap suc (length-offsets (before + entriesOf x) xs)
+
+pub length-array : (gs : List ℕ) (ss : List Segment) → Fed (length gs) ss → length (arrayFrom gs ss) ≡ entries ss
+unfolding arrayFrom
+length-array gs [] f = refl
+length-array gs (x ∷ xs) f = go (eqb (x .delta) 0) (f .0) (length-array (drop (points x) gs) xs (rw (length-drop (points x) gs) (f .2)))
+  where
+    n : ℕ
+    n = points x
+
+    rest : List ℕ
+    rest = arrayFrom (drop n gs) xs
+
+    go : (t : Bool) → pick t n 0 ≤ length gs → length rest ≡ entries xs → length (pick t (take n gs ++ rest) rest) ≡ pick t n 0 + entries xs
+    go true h e = rw (length-append (take n gs) rest, length-take-le n gs h, e)
+    go false h e = e ∙ omega arith
+
+pub length-arrayOf : (ps : List Pair) → length (arrayOf ps) ≡ entries (segmentsOf ps)
+length-arrayOf ps = length-array (map glyphOf ps) (segmentsOf ps) (rw (length-map ps glyphOf) (segments-fed ps))
+
+pub length-format4 : (language : ℕ) (ps : List Pair) → length (format4 language ps) ≡ lengthWith (length (segmentsOf ps)) (length (arrayOf ps))
+unfolding format4 header
+length-format4 language ps =
+    let ss = segmentsOf ps in
+    let e = length-map ss endOf in
+    let s = length-map ss startOf in
+    let d = length-map ss deltaOf in
+    let o = length-offsets 0 ss in
+    rw (length-encs 2 (numbers language ss (arrayOf ps))) (simp (length-append, e, s, d, o) (omega arith))
+
+-- as long as this for so many pairs
+pub length-small : (ps : List Pair) → lengthWith (length (segmentsOf ps)) (length (arrayOf ps)) ≤ 24 + 10 * length ps
+length-small ps = omega (arith, segments-few ps, length-arrayOf ps, entries-fed (segmentsOf ps) (length ps) (segments-fed ps))
+
+-- the glyphs of two columns
+pub glyphs-pairs : (cs gs : List ℕ) → length cs ≡ length gs → map glyphOf (pairs cs gs) ≡ gs
+glyphs-pairs [] [] e = refl
+glyphs-pairs [] (g ∷ gs) e = absurd (omega arith)
+glyphs-pairs (c ∷ cs) [] e = absurd (omega arith)
+glyphs-pairs (c ∷ cs) (g ∷ gs) e = ap (λ (l : List ℕ). g ∷ l) (glyphs-pairs cs gs (omega arith))
+
+pub length-pairs : (cs gs : List ℕ) → length cs ≡ length gs → length (pairs cs gs) ≡ length gs
+length-pairs cs gs e = sym (length-map (pairs cs gs) glyphOf) ∙ ap length (glyphs-pairs cs gs e)

@@ -1,0 +1,3 @@
+pub mod CutLaws
+pub mod Format4Laws
+pub mod CountLaws

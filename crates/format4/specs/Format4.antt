@@ -1,0 +1,78 @@
+-- The bytes of a format 4 subtable for a list of pairs (01, "Format 4").
+use Prim.Native.Nat.{ℕ, zero, suc, _+_, _-_, _*_, _/_, _^_}
+use mathlib.Core.List.{List, [], _∷_, _++_, map}
+use lib.Dec.{eqb, ltb}
+use lib.ListN.{length, take, drop}
+use Rattle.laws.specs.Choice.{pick}
+use Rattle.laws.specs.Lists.{Pair}
+use Rattle.number.specs.Row.{encs}
+use Rattle.ranges.specs.declared.Segment.{Segment}
+use Rattle.ranges.specs.Steps.{idle, cutFrom, entriesOf}
+
+-- the segments that the pairs are cut into, the closing one with them
+unfoldable pub segmentsOf : List Pair → List Segment
+segmentsOf ps = cutFrom idle ps
+
+-- how many code points a segment has
+abbrev pub points : Segment → ℕ
+points x = x .end + 1 - x .start
+
+-- "Delta 0 means glyph array": a segment takes a glyph for each of its points, and those of a segment of delta 0 stand in the array
+unfoldable pub arrayFrom : List ℕ → List Segment → List ℕ
+arrayFrom gs [] = []
+arrayFrom gs (x ∷ xs) = pick (eqb (x .delta) 0) (take (points x) gs ++ arrayFrom (drop (points x) gs) xs) (arrayFrom (drop (points x) gs) xs)
+
+abbrev pub glyphOf : Pair → ℕ
+glyphOf p = p .1
+
+-- the glyph array
+abbrev pub arrayOf : List Pair → List ℕ
+arrayOf ps = arrayFrom (map glyphOf ps) (segmentsOf ps)
+
+-- the range offsets, where `before` entries of the array stand before the first of these segments: how many bytes it is from the offset
+-- itself to the segment's first entry, over the offsets that follow and those entries; 0 for a segment with a delta
+unfoldable pub offsetsFrom : ℕ → List Segment → List ℕ
+offsetsFrom before [] = []
+offsetsFrom before (x ∷ xs) = pick (eqb (x .delta) 0) (2 * length (x ∷ xs) + 2 * before) 0 ∷ offsetsFrom (before + entriesOf x) xs
+
+-- the floor of the binary logarithm of s, where s is at most f
+unfoldable pub logFrom : ℕ → ℕ → ℕ
+logFrom zero s = 0
+logFrom (suc f) s = let more = suc (logFrom f (s / 2)) in pick (ltb s 2) 0 more
+
+unfoldable pub floorLog2 : ℕ → ℕ
+unfolding logFrom
+floorLog2 s = logFrom s s
+
+-- "Length 16+8s+2·glyphs"
+abbrev pub lengthWith : ℕ → ℕ → ℕ
+lengthWith s g = 16 + 8 * s + 2 * g
+
+-- "4, length, source language, segCountX2, searchRange = 2·2^e, entrySelector e = floor(log2 s), rangeShift = 2s−searchRange"
+unfoldable pub header : ℕ → ℕ → ℕ → List ℕ
+unfolding floorLog2
+header language s g =
+    let e = floorLog2 s in
+    4 ∷ lengthWith s g ∷ language ∷ (2 * s) ∷ (2 * 2 ^ e) ∷ e ∷ (2 * s - 2 * 2 ^ e) ∷ []
+
+abbrev pub endOf : Segment → ℕ
+endOf x = x .end
+
+abbrev pub startOf : Segment → ℕ
+startOf x = x .start
+
+abbrev pub deltaOf : Segment → ℕ
+deltaOf x = x .delta
+
+-- "Then ends, a zero, starts, deltas, range offsets, glyphs."
+abbrev pub columns : List Segment → List ℕ → List ℕ
+columns ss array = map endOf ss ++ (0 ∷ (map startOf ss ++ (map deltaOf ss ++ (offsetsFrom 0 ss ++ array))))
+
+-- all numbers of the subtable
+abbrev pub numbers : ℕ → List Segment → List ℕ → List ℕ
+numbers language ss array = header language (length ss) (length array) ++ columns ss array
+
+-- two bytes each
+unfoldable pub format4 : ℕ → List Pair → List ℕ
+unfolding segmentsOf arrayFrom
+format4 language ps = encs 2 (numbers language (segmentsOf ps) (arrayOf ps))

@@ -1,0 +1,2 @@
+pub mod Format4
+pub mod Size

@@ -1,0 +1,52 @@
+-- How long a format 4 subtable gets, and whether it is written at all (01, "Format 4").
+use Prim.Native.Nat.{ℕ, _+_, _≤_, _<_}
+use mathlib.Core.Path.{_≡_}
+use mathlib.Core.List.{List, [], _∷_}
+use lib.Dec.{leb}
+use lib.ListN.{length, getD}
+use Rattle.laws.specs.Choice.{pick}
+use Rattle.laws.specs.Lists.{Pair}
+use Rattle.number.specs.Limits.{pairsMax, format4LengthMax}
+use Rattle.ranges.specs.declared.Segment.{Segment}
+use Rattle.ranges.specs.Steps.{entries}
+use Rattle.format4.specs.declared.RangeCounter.{RangeCounter}
+use Rattle.format4.specs.declared.Size.{Size}
+use Rattle.format4.specs.declared.Size.the-variants.{Empty, TooLong, Fits}
+use Rattle.format4.specs.Format4.{segmentsOf, arrayOf, lengthWith}
+
+-- the slices are two columns of one list of pairs; format 4 maps only code points of 16 bits
+pub record Columns (cs gs : List ℕ) : Type 0 where
+  pub even : length cs ≡ length gs
+  pub few : length cs ≤ pairsMax
+  pub low : (k : ℕ) → getD cs k 0 < 65536
+
+abbrev pub counter : ℕ → ℕ → RangeCounter
+counter s g = record { segments = s; glyphs = g }
+
+-- as many segments as the pairs are cut into, and as many glyphs as their array has
+abbrev pub countOf : List Pair → RangeCounter
+countOf ps = counter (length (segmentsOf ps)) (length (arrayOf ps))
+
+abbrev pub lengthOf : RangeCounter → ℕ
+lengthOf n = lengthWith (n .segments) (n .glyphs)
+
+-- "'empty' if none"; "above 65,535 the record is too long and dropped, whatever the room"
+unfoldable pub sizeOf : List Pair → Size
+sizeOf [] = Empty
+sizeOf (p ∷ ps) = pick (leb (lengthOf (countOf (p ∷ ps))) format4LengthMax) (Fits (countOf (p ∷ ps))) TooLong
+
+-- ---- the counter
+
+-- both counts are below m
+pub record Below (m : ℕ) (n : RangeCounter) : Type 0 where
+  pub segments : n .segments < m
+  pub glyphs : n .glyphs < m
+
+-- a counter that has seen these segments too
+abbrev pub counted : RangeCounter → List Segment → RangeCounter
+counted n ss = counter (n .segments + length ss) (n .glyphs + entries ss)
+
+-- what a walk over the pairs gives: their count, far from an overflow
+pub record Counts (ps : List Pair) (n : RangeCounter) : Type 0 where
+  pub is : n ≡ countOf ps
+  pub below : Below 1000000000000 n

@@ -1,0 +1,78 @@
+-- Several runs of stores: those apart may be made in any order, and those that meet are one.
+use Prim.Native.Nat.{ℕ, suc, _+_, _≤_}
+use mathlib.Core.Path.{_≡_, refl, sym, ap, _∙_}
+use mathlib.Core.List.{List, [], _∷_, _++_}
+use native.Mathlib.Omega.{arith}
+use lib.ListN.{length, set, length-append}
+use lib.Seq.{sets, set-comm, length-sets}
+use Rattle.laws.proofs.SetsLaws.{sets-append}
+
+-- us, and vs right behind them
+pub sets-then : (us vs l : List ℕ) (i j : ℕ) → j ≡ i + length us → sets (sets l i us) j vs ≡ sets l i (us ++ vs)
+sets-then us vs l i j e = ap (λ (k : ℕ). sets (sets l i us) k vs) e ∙ sets-append l i us vs
+
+sets-set : (l : List ℕ) (j a i : ℕ) (vs : List ℕ) → i + length vs ≤ j → sets (set l j a) i vs ≡ set (sets l i vs) j a
+sets-set l j a i [] h = refl
+sets-set l j a i (v ∷ vs) h =
+    ap (λ (k : List ℕ). sets k (suc i) vs) (set-comm l j i a v (λ e. omega arith)) ∙ sets-set (set l i v) j a (suc i) vs (omega arith)
+
+-- stores that lie before others may be made first
+pub sets-sets : (us l : List ℕ) (j i : ℕ) (vs : List ℕ) → i + length vs ≤ j → sets (sets l j us) i vs ≡ sets (sets l i vs) j us
+sets-sets [] l j i vs h = refl
+sets-sets (u ∷ us) l j i vs h =
+    sets-sets us (set l j u) (suc j) i vs (omega arith) ∙ ap (λ (k : List ℕ). sets k (suc j) us) (sets-set l j u i vs h)
+
+-- ---- a list of runs, each with its place
+
+abbrev pub Run : Type 0
+Run = ℕ × List ℕ
+
+abbrev pub runs : List ℕ → List Run → List ℕ
+runs l [] = l
+runs l (r ∷ rs) = runs (sets l (r .0) (r .1)) rs
+
+pub length-runs : (l : List ℕ) (rs : List Run) → length (runs l rs) ≡ length l
+length-runs l [] = refl
+length-runs l (r ∷ rs) = length-runs (sets l (r .0) (r .1)) rs ∙ length-sets l (r .0) (r .1)
+
+-- stores up to `end` lie before every one of the runs
+abbrev pub Past : ℕ → List Run → Type 0
+Past end [] = Unit {0}
+Past end (r ∷ rs) = (end ≤ r .0) × Past end rs
+
+pub sets-runs : (rs : List Run) (l : List ℕ) (i : ℕ) (vs : List ℕ) → Past (i + length vs) rs → sets (runs l rs) i vs ≡ runs (sets l i vs) rs
+sets-runs [] l i vs p = refl
+sets-runs (r ∷ rs) l i vs p = sets-runs rs (sets l (r .0) (r .1)) i vs (p .1) ∙ ap (λ (k : List ℕ). runs k rs) (sets-sets (r .1) l (r .0) i vs (p .0))
+
+-- ---- columns: at each place a front and a rest behind it
+
+pub record Column : Type 0 where
+  pub place : ℕ
+  pub front : List ℕ
+  pub rest : List ℕ
+
+abbrev pub fronts : List Column → List Run
+fronts [] = []
+fronts (c ∷ cs) = (c .place, c .front) ∷ fronts cs
+
+abbrev pub rests : List Column → List Run
+rests [] = []
+rests (c ∷ cs) = (c .place + length (c .front), c .rest) ∷ rests cs
+
+abbrev pub wholes : List Column → List Run
+wholes [] = []
+wholes (c ∷ cs) = (c .place, c .front ++ c .rest) ∷ wholes cs
+
+-- each column ends before the places that follow
+abbrev pub Ordered : List Column → Type 0
+Ordered [] = Unit {0}
+Ordered (c ∷ cs) = Past (c .place + length (c .front) + length (c .rest)) (fronts cs) × Ordered cs
+
+-- all fronts and then all rests are column by column
+pub fronts-rests : (cs : List Column) (l : List ℕ) → Ordered cs → runs (runs l (fronts cs)) (rests cs) ≡ runs l (wholes cs)
+fronts-rests [] l o = refl
+fronts-rests (c ∷ cs) l o =
+    ap (λ (k : List ℕ). runs k (rests cs))
+    (sets-runs (fronts cs) (sets l (c .place) (c .front)) (c .place + length (c .front)) (c .rest) (o .0)
+    ∙ ap (λ (k : List ℕ). runs k (fronts cs)) (sets-append l (c .place) (c .front) (c .rest)))
+    ∙ fronts-rests cs (sets l (c .place) (c .front ++ c .rest)) (o .1)

@@ -1,0 +1,48 @@
+-- A row of numbers: its length, its parts, the number at a place, and the stores that make it.
+use Prim.Native.Nat.{ℕ, zero, suc, _+_, _*_, _%_, _^_, _<_, _≤_}
+use mathlib.Core.Path.{_≡_, refl, sym, ap, _∙_}
+use mathlib.Core.List.{List, [], _∷_, _++_, append-assoc}
+use native.Mathlib.Nat.{mod-eq-of-lt, mul-suc, mul-zero}
+use native.Mathlib.Omega.{arith}
+use lib.ListN.{length, getD, length-append}
+use lib.Seq.{sets}
+use Rattle.number.specs.BigEndian.{be, enc, put}
+use Rattle.number.specs.Row.{encs}
+use Rattle.number.proofs.BigEndianLaws.{pow-pos, length-enc, be-enc, be-front, be-back, be-ext, put-left}
+
+module _ (w : ℕ) where
+  pub length-encs : (vs : List ℕ) → length (encs w vs) ≡ w * length vs
+  unfolding encs
+  length-encs [] = sym (mul-zero w)
+  length-encs (v ∷ vs) = rw (length-append (enc w v) (encs w vs), length-enc w v, length-encs vs, mul-suc w (length vs)) (omega arith)
+
+  pub encs-append : (us vs : List ℕ) → encs w (us ++ vs) ≡ encs w us ++ encs w vs
+  unfolding encs
+  encs-append [] vs = refl
+  encs-append (u ∷ us) vs = rw (encs-append us vs) (sym (append-assoc (enc w u) (encs w us) (encs w vs)))
+
+  be-nothing : (u at : ℕ) → be u [] at ≡ 0
+  unfolding be
+  be-nothing zero at = refl
+  be-nothing (suc u) at = rw (be-nothing u at)
+
+  -- the k-th number of the row, as much of it as w bytes hold
+  pub be-encs : (vs : List ℕ) (k : ℕ) → be w (encs w vs) (w * k) ≡ getD vs k 0 % 256 ^ w
+  unfolding encs
+  be-encs [] k = be-nothing w (w * k) ∙ sym (mod-eq-of-lt (pow-pos w))
+  be-encs (v ∷ vs) zero = rw (mul-zero w) (be-front w (enc w v) (encs w vs) 0 (rw (length-enc w v) (omega arith)) ∙ be-enc w v)
+  be-encs (v ∷ vs) (suc k) =
+      let e : w * suc k ≡ length (enc w v) + w * k = rw (length-enc w v, mul-suc w k) (omega arith) in
+      rw e (be-back w (enc w v) (encs w vs) (w * k)) ∙ be-encs vs k
+
+  pub be-encs-fits : (vs : List ℕ) (k : ℕ) → getD vs k 0 < 256 ^ w → be w (encs w vs) (w * k) ≡ getD vs k 0
+  be-encs-fits vs k h = be-encs vs k ∙ mod-eq-of-lt h
+
+  -- the first number stored, and the rest of the row behind it
+  pub put-encs : (l : List ℕ) (i v : ℕ) (vs : List ℕ) → sets (put w l i v) (i + w) (encs w vs) ≡ sets l i (encs w (v ∷ vs))
+  unfolding encs
+  put-encs l i v vs = put-left w l i v (encs w vs)
+
+  pub put-one : (l : List ℕ) (i v : ℕ) → put w l i v ≡ sets l i (encs w (v ∷ []))
+  unfolding encs
+  put-one l i v = put-encs l i v []
