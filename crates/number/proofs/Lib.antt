@@ -1,1 +1,2 @@
 pub mod BigEndianLaws
+pub mod ColumnsLaws

@@ -1,2 +1,3 @@
 pub mod BigEndian
+pub mod Columns
 pub mod Limits
