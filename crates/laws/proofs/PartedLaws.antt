@@ -1,8 +1,10 @@
 -- What the pieces of a list are: all neighbours in a piece join, no two neighbouring pieces do, and no other cutting is so.
-use mathlib.Core.Path.{_≡_, refl, sym, ap, _∙_}
+use Prim.Native.Nat.{suc, _≤_}
+use mathlib.Core.Path.{_≡_, refl, ap, _∙_}
 use mathlib.Core.List.{List, [], _∷_, _++_, append-nil}
 use mathlib.Core.Bool.{Bool, true, false}
-use Rattle.laws.specs.Choice.{pick}
+use native.Mathlib.Omega.{arith}
+use lib.ListN.{length}
 use Rattle.laws.specs.Pieces.{onto, pieces, concat}
 use Rattle.laws.proofs.ChoiceLaws.{by-pick}
 use Rattle.laws.proofs.PiecesLaws.{Joined, lone, more, pieces-joined, pieces-all}
@@ -32,3 +34,15 @@ module _ {A : Type 0} (joins : A → A → Bool) where
   parted-pieces parted-none = refl
   parted-pieces (parted-last {x} {l} {xs} j) = rw (append-nil xs) (pieces-all joins j)
   parted-pieces (parted-more {x} {l} {y} {xs} {ys} {ps} j d p) = pieces-joined joins y (ys ++ concat ps) j d ∙ ap (λ (q : List (List A)). (x ∷ xs) ∷ q) (parted-pieces p)
+
+  onto-length : (x : A) (ps : List (List A)) → length (onto joins x ps) ≤ suc (length ps)
+  onto-length x [] = omega arith
+  onto-length x ([] ∷ ps) = omega arith
+  onto-length x ((y ∷ ys) ∷ ps) =
+      by-pick (λ (q : List (List A)). length q ≤ suc (suc (length ps))) (joins x y) ((x ∷ y ∷ ys) ∷ ps) ((x ∷ []) ∷ (y ∷ ys) ∷ ps) (λ e. omega arith) (λ e. omega arith)
+
+  -- there are no more pieces than elements
+  pub length-pieces : (xs : List A) → length (pieces joins xs) ≤ length xs
+  unfolding pieces
+  length-pieces [] = omega arith
+  length-pieces (x ∷ xs) = omega (arith, onto-length x (pieces joins xs), length-pieces xs)
