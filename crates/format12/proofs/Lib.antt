@@ -1,2 +1,3 @@
 pub mod GroupsLaws
 pub mod WalkLaws
+pub mod TableLaws

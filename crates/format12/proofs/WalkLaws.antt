@@ -15,6 +15,7 @@ use Rattle.format12.specs.declared.Group.{Group}
 use Rattle.format12.specs.declared.GroupState.{GroupState}
 use Rattle.format12.specs.declared.Absorbed.{Absorbed}
 use Rattle.format12.specs.declared.Ended.{Ended}
+use Rattle.format12.specs.declared.Ended.the-variants.{Nothing, One}
 use Rattle.format12.specs.Format12.{groups, fields, Columns}
 use Rattle.format12.specs.Steps.{idle, finish, step, toList, Counted, groupsFrom}
 use Rattle.format12.proofs.GroupsLaws.{walk-groups}
@@ -111,3 +112,27 @@ module _ (cs gs out₀ : List ℕ) (at : ℕ) where
 
       pub writing-done : (next : List ℕ) → next ≡ sets out to (encs 4 (fields (toList e))) → next ≡ sets out₀ at (encs 4 (fields (groups (pairs cs gs))))
       writing-done next q = q ∙ rw (← ahead-end s cs gs i e h d) (w .left)
+
+pub ruleset writing = (writing-start, writing-room, writing-on, writing-room-end, writing-done)
+
+-- ---- one ended group, or none
+
+module _ (e : Ended) (at : ℕ) where
+  pub put-nothing : e ≡ Nothing → at ≡ at + 12 * length (toList e)
+  put-nothing d = rw d (omega arith)
+
+  pub put-nothing-bytes : (o : List ℕ) → e ≡ Nothing → o ≡ sets o at (encs 4 (fields (toList e)))
+  unfolding encs
+  put-nothing-bytes o d = rw d
+
+  module _ (g : Group) (d : e ≡ One g) where
+    pub put-one : at + 12 ≡ at + 12 * length (toList e)
+    put-one = rw d (omega arith)
+
+    pub put-one-bytes : (o next : List ℕ) → next ≡ sets o at (encs 4 (fields (g ∷ []))) → next ≡ sets o at (encs 4 (fields (toList e)))
+    put-one-bytes o next h = rw d h
+
+    pub put-one-room : (l : ℕ) → at + 12 * length (toList e) ≤ l → at + 12 ≤ l
+    put-one-room l h = rw d at h
+
+pub ruleset putting = (put-nothing, put-nothing-bytes, put-one, put-one-bytes, put-one-room)

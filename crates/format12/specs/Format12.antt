@@ -66,3 +66,8 @@ sizeOf ps = record { groups = length (groups ps); bytes = tableLength (length (g
 pub record Columns (cs gs : List ℕ) : Type 0 where
   pub even : length gs ≡ length cs
   pub few : length cs ≤ 65535
+
+-- n is the number of groups that the pairs make, and l bytes have room for their subtable at a place
+pub record Room (ps : List Pair) (n at l : ℕ) : Type 0 where
+  pub found : n ≡ length (groups ps)
+  pub fits : at + tableLength n ≤ l
