@@ -11,3 +11,5 @@ pub mod EachLaws
 pub mod LinkedLaws
 pub mod RisingEachLaws
 pub mod RunsLaws
+pub mod PartedLaws
+pub mod TestLaws

@@ -1,3 +1,4 @@
 pub mod BigEndian
+pub mod Columns
 pub mod Limits
 pub mod Row

@@ -1,0 +1,3 @@
+pub mod GroupsLaws
+pub mod WalkLaws
+pub mod TableLaws

@@ -1,0 +1,100 @@
+-- Two numbers of two bytes and three of four, each behind the one before.
+use native.Mathlib.Omega.{arith}
+use Rattle.number.specs.BigEndian.{enc}
+use Rattle.number.specs.Columns.{encs}
+use Rattle.number.proofs.BigEndianLaws.{written-first, written-on}
+use Rattle.format12.specs.Format12.{header}
+use borrow.Author.Needs.{needs}
+use Rattle.format12.proofs.write_header.Statement.{statement}
+use Rattle.format12.proofs.write_header.Tie as tie
+use Rattle.format12.proofs.write_header.Reads as reads
+use Rattle.format12.proofs.write_header.Lts as lts
+use Rattle.number.proofs.put_u16.Reads as put-u16-reads
+use Rattle.number.proofs.put_u32.Reads as put-u32-reads
+
+-- src/lib.rt:205:5
+put-u16-requires : tie.Need-put-u16-requires
+put-u16-requires c κs = search needs
+
+-- src/lib.rt:206:26
+add-put-u16 : tie.Need-add-put-u16
+add-put-u16 c = search needs
+
+-- src/lib.rt:206:5
+put-u16-requires-2 : tie.Need-put-u16-requires-2
+put-u16-requires-2 c κs = search needs
+
+-- src/lib.rt:207:26
+add-put-u32 : tie.Need-add-put-u32
+add-put-u32 c = search needs
+
+-- src/lib.rt:207:40
+mul-put-u32 : tie.Need-mul-put-u32
+mul-put-u32 c = search needs
+
+-- src/lib.rt:207:35
+add-put-u32-2 : tie.Need-add-put-u32-2
+add-put-u32-2 c = search needs
+
+-- src/lib.rt:207:34
+cast-put-u32 : tie.Need-cast-put-u32
+cast-put-u32 c = search needs
+
+-- src/lib.rt:207:5
+put-u32-requires : tie.Need-put-u32-requires
+put-u32-requires c κs = search needs
+
+-- src/lib.rt:208:26
+add-put-u32-3 : tie.Need-add-put-u32-3
+add-put-u32-3 c = search needs
+
+-- src/lib.rt:208:5
+put-u32-requires-2 : tie.Need-put-u32-requires-2
+put-u32-requires-2 c κs = search needs
+
+-- src/lib.rt:209:26
+add-put-u32-4 : tie.Need-add-put-u32-4
+add-put-u32-4 c = search needs
+
+-- src/lib.rt:209:35
+cast-put-u32-2 : tie.Need-cast-put-u32-2
+cast-put-u32-2 c = search needs
+
+-- src/lib.rt:209:5
+put-u32-requires-3 : tie.Need-put-u32-requires-3
+put-u32-requires-3 c κs = search needs
+
+-- src/lib.rt:201:1
+same-length : tie.Need-same-length
+same-length c = search needs
+
+-- src/lib.rt:201:1
+returns : tie.Need-returns
+unfolding header encs enc
+returns c =
+    let w₁ = written-first 2 _ _ _ (c .before .before .before .before .before .before .before .before .before .before .before .before .before .before .before .before .before .before .put-u16 .ensures) in
+    let w₂ = written-on 2 _ _ w₁ (c .before .before .before .before .before .before .before .before .before .before .before .before .before .before .put-u162 .ensures) (omega arith) in
+    let w₃ = written-on 4 _ _ w₂ (c .before .before .before .before .before .before .before .before .before .before .put-u32 .ensures) (omega arith) in
+    let w₄ = written-on 4 _ _ w₃ (c .before .before .before .before .before .before .put-u322 .ensures) (omega arith) in
+    let w₅ = written-on 4 _ _ w₄ (c .before .before .put-u323 .ensures) (omega arith) in
+    w₅ .is
+
+pub write-header-spec : {M : Type 1} → statement M
+write-header-spec =
+    tie.close
+    (tie.spec
+    put-u16-requires
+    add-put-u16
+    put-u16-requires-2
+    add-put-u32
+    mul-put-u32
+    add-put-u32-2
+    cast-put-u32
+    put-u32-requires
+    add-put-u32-3
+    put-u32-requires-2
+    add-put-u32-4
+    cast-put-u32-2
+    put-u32-requires-3
+    same-length
+    returns)

@@ -1,0 +1,2 @@
+pub mod Format12
+pub mod Steps
