@@ -45,10 +45,10 @@ module _ (P : ℕ → List Segment → Type 0) (close : (t : Bool) → P 0 (clos
       (λ _. all)
       (λ _. by-pick (λ (o : Committed). P (k + m) (toList o ++ rest)) (splits s cost) (Two (earlier s) (theRun s)) (One (whole s 0))
       (λ e.
-        let l = ltb-true (s .start) (s .run) (both-left _ _ e) in
-        moved (omega (arith, h .all, h .high))
-        (before (earlier s) (s .run - s .start) (s .end + 1 - s .run + m) (theRun s ∷ rest) (omega arith) (omega arith)
-        (before (theRun s) (s .end + 1 - s .run) m rest refl (omega (arith, h .high)) p)))
+      let l = ltb-true (s .start) (s .run) (both-left _ _ e) in
+      moved (omega (arith, h .all, h .high))
+      (before (earlier s) (s .run - s .start) (s .end + 1 - s .run + m) (theRun s ∷ rest) (omega arith) (omega arith)
+      (before (theRun s) (s .end + 1 - s .run) m rest refl (omega (arith, h .high)) p)))
       (λ _. before (whole s 0) k m rest (omega (arith, h .all)) (omega (arith, h .all, h .low, h .high)) p))
 
   abbrev Finishes : ℕ → Finished → Type 0

@@ -105,3 +105,13 @@ module _ (a b t : Bool) where
   either-then r q e h = rw (← q, e) h
 
 pub ruleset one-of = (either-first, either-then)
+
+-- tests that must all hold: t is the code's own answer for a
+module _ (a b t : Bool) where
+  pub both-first : t ≡ a → t ≡ false → false ≡ both a b
+  both-first q e = rw (← q, e)
+
+  pub both-then : (r : Bool) → t ≡ a → t ≡ true → r ≡ b → r ≡ both a b
+  both-then r q e h = rw (← q, e) h
+
+pub ruleset all-of = (both-first, both-then)

@@ -162,8 +162,14 @@ array-cuts (x ∷ cs) gs ss h =
     let here = glyphs (x .pairs) in
     let there = glyphs (concat (parts cs)) ++ gs in
     let n : length here ≡ length (x .pairs) = length-map (x .pairs) (λ (p : Pair). p .1) in
-    rw (linked-length (x .pairs) (h .0), map-append (λ (p : Pair). p .1) (x .pairs) (concat (parts cs)), append-assoc here (glyphs (concat (parts cs))) gs,
-      take-at here there (length (x .pairs)) n, drop-at here there (length (x .pairs)) n, array-cuts cs gs ss (h .1))
+    rw (
+      linked-length (x .pairs) (h .0),
+      map-append (λ (p : Pair). p .1) (x .pairs) (concat (parts cs)),
+      append-assoc here (glyphs (concat (parts cs))) gs,
+      take-at here there (length (x .pairs)) n,
+      drop-at here there (length (x .pairs)) n,
+      array-cuts cs gs ss (h .1),
+    )
     (go (eqb (x .delta) 0) here (concat (map arrayOf cs)) (arrayFrom gs ss))
   where
     go : (t : Bool) (a b c : List ℕ) → pick t (a ++ (b ++ c)) (b ++ c) ≡ (pick t a [] ++ b) ++ c

@@ -1,0 +1,62 @@
+-- Which records are retained, and refusals 6 and 7 (docs/01-rules.md, "Records" and "Numbers of refusal").
+use Prim.Native.Nat.{ℕ, _+_, _*_, _≤_}
+use mathlib.Core.Path.{_≡_}
+use mathlib.Core.List.{List}
+use mathlib.Core.Bool.{Bool, not}
+use lib.Dec.{eqb}
+use lib.ListN.{length}
+use Rattle.laws.specs.Choice.{both, either}
+use Rattle.laws.specs.Search.{some}
+use Rattle.source.specs.declared.Kind.{Kind}
+use Rattle.source.specs.Header.{recordCount, platformOf, encodingOf, offsetOf}
+use Rattle.source.specs.Kind.{kindAt, formatOf}
+use Rattle.records.specs.declared.Wanted.{Wanted}
+use Rattle.records.specs.declared.Wanted.the-variants.{Format12, Bmp, Full}
+
+-- what record k leads to
+unfoldable pub leadsTo : List ℕ → ℕ → Kind
+leadsTo xs k = kindAt xs (offsetOf xs k)
+
+abbrev pub isPair : ℕ → ℕ → List ℕ → ℕ → Bool
+isPair platform encoding xs k = both (eqb (platformOf xs k) platform) (eqb (encodingOf xs k) encoding)
+
+-- (0,3) or (3,1); (0,4) or (3,10)
+unfoldable pub bmpPair : List ℕ → ℕ → Bool
+bmpPair xs k = either (isPair 0 3 xs k) (isPair 3 1 xs k)
+
+unfoldable pub fullPair : List ℕ → ℕ → Bool
+fullPair xs k = either (isPair 0 4 xs k) (isPair 3 10 xs k)
+
+-- a readable subtable of that format
+abbrev pub leadsToFormat : ℕ → List ℕ → ℕ → Bool
+leadsToFormat format xs k = eqb (formatOf (leadsTo xs k)) format
+
+-- the four pairs, or any pair that leads to a readable format 14
+unfoldable pub retained : List ℕ → ℕ → Bool
+retained xs k = either (bmpPair xs k) (either (fullPair xs k) (leadsToFormat 14 xs k))
+
+-- what 6 and 7 ask of a record: a pair counts whatever it leads to
+abbrev pub isWanted : Wanted → List ℕ → ℕ → Bool
+isWanted Format12 xs k = leadsToFormat 12 xs k
+isWanted Bmp xs k = bmpPair xs k
+isWanted Full xs k = fullPair xs k
+
+unfoldable pub someRetained : Wanted → List ℕ → Bool
+someRetained wanted xs = some (λ k. both (retained xs k) (isWanted wanted xs k)) (recordCount xs) 0
+
+-- 6: no retained record is format 12 and none is (0,3) or (3,1)
+abbrev pub refused6 : List ℕ → Bool
+refused6 xs = both (not (someRetained Format12 xs)) (not (someRetained Bmp xs))
+
+-- 7: a retained record is format 12 and none is (0,4) or (3,10)
+abbrev pub refused7 : List ℕ → Bool
+refused7 xs = both (someRetained Format12 xs) (not (someRetained Full xs))
+
+-- record k is all there
+pub record Placed (xs : List ℕ) (k : ℕ) : Type 0 where
+  pub inside : 12 + 8 * k ≤ length xs
+
+-- n is the count, and the records are all there
+pub record Counted (xs : List ℕ) (n : ℕ) : Type 0 where
+  pub is : n ≡ recordCount xs
+  pub inside : 4 + 8 * n ≤ length xs
