@@ -1,7 +1,7 @@
 -- Looking a code point up in the segments that a rising list of pairs is cut into gives its listed glyph, or 0 where none is listed.
 use Prim.Native.Nat.{ℕ, zero, suc, _+_, _-_, _%_, _≤_, _<_}
 use native.Mathlib.Omega.{arith}
-use mathlib.Core.Path.{_≡_, refl, sym, _∙_, ap}
+use mathlib.Core.Path.{_≡_, refl, sym, _∙_}
 use mathlib.Core.List.{List, [], _∷_, _++_, map, map-append, append-nil}
 use mathlib.Core.Bool.{Bool, true, false, not}
 use lib.Dec.{eqb, leb}
@@ -9,15 +9,15 @@ use lib.ListN.{length, getD, drop, length-map, List·getD-append}
 use lib.Seq.{drop-at}
 use borrow.Author.Tests.{le-leb, lt-leb, leb-true, leb-false, eq-eqb, ne-eqb, eqb-true, eqb-false}
 use Rattle.laws.specs.Choice.{pick}
-use Rattle.laws.specs.Lists.{Pair, Rising}
-use Rattle.laws.specs.Pieces.{pieces, concat}
+use Rattle.laws.specs.Lists.{Pair, pairs, Rising}
+use Rattle.laws.specs.Pieces.{concat}
 use Rattle.laws.specs.Linked.{Each, Filled, Linked}
 use Rattle.laws.proofs.ChoiceLaws.{by-pick, by-leb, false-true}
-use Rattle.laws.proofs.EachLaws.{each-left, each-of, each-both, each-pieces, getD-each}
+use Rattle.laws.proofs.EachLaws.{each-of, each-both, each-pieces}
 use Rattle.laws.proofs.LinkedLaws.{linked-filled, pieces-linked}
+use Rattle.laws.proofs.PairsLaws.{firsts-pairs, each-pairs}
 use Rattle.laws.proofs.RisingEachLaws.{Climbs, rising-climbs, climbs-right}
-use Rattle.ranges.specs.declared.Segment.{Segment}
-use Rattle.ranges.specs.Steps.{deltaOf, closing, entriesOf, idle, cutFrom}
+use Rattle.ranges.specs.Steps.{closing, entriesOf}
 use Rattle.ranges.specs.Cutting.{nextCode, nextGlyph, rangesOf, runsOf, Cut, cutOf, present, cutRange, cuts, runDelta, firstCode, lastCode, segmentOf, segments, glyphs, arrayOf, glyphArray}
 use Rattle.ranges.proofs.CuttingLaws.{parts, Adjacent, linked-length, cuts-pairs, runs-each, cuts-each, cuts-adjacent, segments-closed}
 use Rattle.cut_lookup.specs.Lookup.{valueIn, lookupIn, glyphOf, codes, Fits, Listed}
@@ -160,3 +160,7 @@ segments-find ps c l h =
     let r = rising-climbs (codes ps) (l .rising) in
     let f = cuts-find (cuts ps) (not (eqb (lastCode ps) 65535)) c h (rw (cuts-pairs ps) r) (cuts-adjacent ps) (cuts-told ps (l .fits)) in
     rw (segments-closed ps) (rw (cuts-pairs ps) at f)
+
+-- two slices of equal length as pairs that a table can hold
+pub listed-pairs : (cs gs : List ℕ) → length cs ≡ length gs → Rising cs → Each (λ (n : ℕ). n < 65536) cs → Each (λ (n : ℕ). n < 65536) gs → Listed (pairs cs gs)
+listed-pairs cs gs e r a b = record { rising = rw (firsts-pairs cs gs e) r; fits = each-pairs (λ (n : ℕ). n < 65536) (λ (n : ℕ). n < 65536) cs gs a b }

@@ -7,3 +7,4 @@ pub mod PiecesFirstLaws
 pub mod EachLaws
 pub mod LinkedLaws
 pub mod RisingEachLaws
+pub mod PairsLaws

@@ -1,5 +1,5 @@
 -- The first piece of a list: it begins with the list's first element, and what joins it from before becomes part of it.
-use mathlib.Core.Path.{_≡_, refl, sym, ap, _∙_}
+use mathlib.Core.Path.{_≡_, refl}
 use mathlib.Core.List.{List, [], _∷_, _++_}
 use mathlib.Core.Bool.{Bool, true, false}
 use Rattle.laws.specs.Choice.{pick}

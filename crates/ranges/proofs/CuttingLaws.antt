@@ -1,12 +1,12 @@
 -- The cuts of a list of pairs are that list in parts, each of adjacent code points; and the glyph array can be found segment by segment.
-use Prim.Native.Nat.{ℕ, suc, _+_, _-_, _*_}
+use Prim.Native.Nat.{ℕ, _+_, _-_}
 use native.Mathlib.Omega.{arith}
 use native.Mathlib.Nat.{zero-add}
 use mathlib.Core.Path.{_≡_, refl, sym, _∙_, ap}
 use mathlib.Core.List.{List, [], _∷_, _++_, map, map-append, append-assoc, append-nil}
 use mathlib.Core.Bool.{Bool, true, false, not}
 use lib.Dec.{eqb, leb}
-use lib.ListN.{length, take, drop, length-append, length-map}
+use lib.ListN.{length, length-append, length-map}
 use lib.Seq.{take-at, drop-at}
 use borrow.Author.Tests.{eqb-true}
 use Rattle.laws.specs.Choice.{pick, both}
@@ -15,12 +15,12 @@ use Rattle.laws.specs.Pieces.{pieces, concat}
 use Rattle.laws.specs.Linked.{Each, Filled, Linked}
 use Rattle.laws.proofs.ChoiceLaws.{by-pick, both-left, false-true}
 use Rattle.laws.proofs.PiecesLaws.{concat-append, concat-pieces}
-use Rattle.laws.proofs.PiecesFirstLaws.{First, pieces-first}
+use Rattle.laws.proofs.PiecesFirstLaws.{pieces-first}
 use Rattle.laws.proofs.EachLaws.{each-append, each-of, each-map, each-mapped, each-concat}
 use Rattle.laws.proofs.LinkedLaws.{filled-left, linked-filled, pieces-linked, linked-parts}
 use Rattle.ranges.specs.declared.Segment.{Segment}
-use Rattle.ranges.specs.Steps.{closing, entries, entriesOf}
-use Rattle.ranges.specs.Cutting.{nextCode, nextGlyph, rangesOf, runsOf, reaches, Cut, cutOf, present, commitRun, cutRuns, cutRange, cuts, firstCode, lastCode, segmentOf, lastEnd, closed, segments, glyphs, arrayOf, glyphArray, arrayFrom}
+use Rattle.ranges.specs.Steps.{closing, entries}
+use Rattle.ranges.specs.Cutting.{nextCode, nextGlyph, rangesOf, runsOf, reaches, Cut, cutOf, present, commitRun, cutRuns, cutRange, cuts, firstCode, lastCode, segmentOf, lastEnd, segments, glyphs, arrayOf, glyphArray, arrayFrom}
 
 -- ---- runs joined
 
@@ -162,8 +162,14 @@ array-cuts (x ∷ cs) gs ss h =
     let here = glyphs (x .pairs) in
     let there = glyphs (concat (parts cs)) ++ gs in
     let n : length here ≡ length (x .pairs) = length-map (x .pairs) (λ (p : Pair). p .1) in
-    rw (linked-length (x .pairs) (h .0), map-append (λ (p : Pair). p .1) (x .pairs) (concat (parts cs)), append-assoc here (glyphs (concat (parts cs))) gs,
-      take-at here there (length (x .pairs)) n, drop-at here there (length (x .pairs)) n, array-cuts cs gs ss (h .1))
+    rw (
+      linked-length (x .pairs) (h .0),
+      map-append (λ (p : Pair). p .1) (x .pairs) (concat (parts cs)),
+      append-assoc here (glyphs (concat (parts cs))) gs,
+      take-at here there (length (x .pairs)) n,
+      drop-at here there (length (x .pairs)) n,
+      array-cuts cs gs ss (h .1),
+    )
     (go (eqb (x .delta) 0) here (concat (map arrayOf cs)) (arrayFrom gs ss))
   where
     go : (t : Bool) (a b c : List ℕ) → pick t (a ++ (b ++ c)) (b ++ c) ≡ (pick t a [] ++ b) ++ c

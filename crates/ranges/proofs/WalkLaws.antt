@@ -1,24 +1,24 @@
 -- The walk pair by pair (Steps.antt) writes the segments of the cutting by ranges and runs (Cutting.antt).
-use Prim.Native.Nat.{ℕ, suc, _+_, _-_, _*_, _≤_, _<_}
+use Prim.Native.Nat.{ℕ, suc, _+_, _-_, _<_}
 use native.Mathlib.Omega.{arith}
 use mathlib.Core.Path.{_≡_, refl, sym, _∙_, ap}
 use mathlib.Core.List.{List, [], _∷_, _++_, map, map-append, append-assoc, append-nil}
 use mathlib.Core.Bool.{Bool, true, false, not}
 use lib.Dec.{eqb, leb, ltb}
 use lib.ListN.{length}
-use borrow.Author.Tests.{eq-eqb, ne-eqb, lt-ltb, le-leb, leb-true, leb-false, eqb-true, ltb-true}
+use borrow.Author.Tests.{eq-eqb, ne-eqb, lt-ltb, eqb-true}
 use Rattle.laws.specs.Choice.{pick, both}
 use Rattle.laws.specs.Lists.{Pair}
 use Rattle.laws.specs.Pieces.{pieces, concat}
 use Rattle.laws.proofs.ChoiceLaws.{by-pick, leb-same}
-use Rattle.laws.proofs.PiecesLaws.{Joined, lone, more, joined-snoc, pieces-joined, pieces-all, concat-append}
-use Rattle.laws.proofs.PiecesFirstLaws.{First, prefixed, pieces-first, pieces-on}
+use Rattle.laws.proofs.PiecesLaws.{Joined, lone, more, joined-snoc, pieces-joined, pieces-all}
+use Rattle.laws.proofs.PiecesFirstLaws.{pieces-first, pieces-on}
 use Rattle.ranges.specs.declared.Segment.{Segment}
 use Rattle.ranges.specs.declared.RangeState.{RangeState}
 use Rattle.ranges.specs.declared.Absorbed.{Absorbed}
 use Rattle.ranges.specs.declared.Committed.the-variants.{None, One, Two}
 use Rattle.ranges.specs.Steps.{deltaOf, seg, idle, begun, grown, turned, absorbed, pays, commit, step, finish, toList, closing, cutFrom}
-use Rattle.ranges.specs.Cutting.{nextCode, nextGlyph, rangesOf, runsOf, reaches, Cut, runDelta, loneDelta, cutOf, commitRun, cutRuns, cutRange, cuts, firstCode, lastCode, segmentOf, lastEnd, closed, segments}
+use Rattle.ranges.specs.Cutting.{nextCode, nextGlyph, rangesOf, runsOf, reaches, Cut, loneDelta, cutOf, commitRun, cutRuns, cutRange, cuts, lastCode, segmentOf, segments}
 use Rattle.ranges.proofs.CuttingLaws.{concat-snoc, last-append, segments-closed}
 
 -- ---- a run as the walk has gathered it: from x to l
