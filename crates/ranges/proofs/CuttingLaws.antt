@@ -15,18 +15,14 @@ use Rattle.laws.specs.Pieces.{pieces, concat}
 use Rattle.laws.specs.Linked.{Each, Filled, Linked}
 use Rattle.laws.proofs.ChoiceLaws.{by-pick, both-left, false-true}
 use Rattle.laws.proofs.PiecesLaws.{concat-append, concat-pieces}
-use Rattle.laws.proofs.PiecesFirstLaws.{pieces-first}
+use Rattle.laws.proofs.PiecesFirstLaws.{concat-snoc, pieces-first}
 use Rattle.laws.proofs.EachLaws.{each-append, each-of, each-map, each-mapped, each-concat}
 use Rattle.laws.proofs.LinkedLaws.{filled-left, linked-filled, pieces-linked, linked-parts}
 use Rattle.ranges.specs.declared.Segment.{Segment}
 use Rattle.ranges.specs.Steps.{closing, entries}
 use Rattle.ranges.specs.Cutting.{nextCode, nextGlyph, rangesOf, runsOf, reaches, Cut, cutOf, present, commitRun, cutRuns, cutRange, cuts, firstCode, lastCode, segmentOf, lastEnd, segments, glyphs, arrayOf, glyphArray, arrayFrom}
 
--- ---- runs joined
-
-pub concat-snoc : (runs : List (List Pair)) (run : List Pair) → concat (runs ++ (run ∷ [])) ≡ concat runs ++ run
-unfolding concat
-concat-snoc runs run = concat-append runs (run ∷ []) ∙ ap (λ (ps : List Pair). concat runs ++ ps) (append-nil run)
+-- ---- adjacent code points
 
 pub last-append : (ps qs : List Pair) → Filled qs → lastCode (ps ++ qs) ≡ lastCode qs
 last-append ps [] h = absurd h
@@ -34,7 +30,7 @@ last-append [] (q ∷ qs) h = refl
 last-append (p ∷ []) (q ∷ qs) h = refl
 last-append (p ∷ p′ ∷ ps) (q ∷ qs) h = last-append (p′ ∷ ps) (q ∷ qs) h
 
--- adjacent code points: as many as there are from the first to the last
+-- as many as there are from the first to the last
 linked-last : (ps : List Pair) → Linked nextCode ps → lastCode ps + 1 ≡ firstCode ps + length ps
 linked-last [] h = absurd h
 linked-last (p ∷ []) h = refl

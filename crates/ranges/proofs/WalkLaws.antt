@@ -12,14 +12,14 @@ use Rattle.laws.specs.Lists.{Pair}
 use Rattle.laws.specs.Pieces.{pieces, concat}
 use Rattle.laws.proofs.ChoiceLaws.{by-pick, leb-same}
 use Rattle.laws.proofs.PiecesLaws.{Joined, lone, more, joined-snoc, pieces-joined, pieces-all}
-use Rattle.laws.proofs.PiecesFirstLaws.{pieces-first, pieces-on}
+use Rattle.laws.proofs.PiecesFirstLaws.{concat-snoc, pieces-first, pieces-on}
 use Rattle.ranges.specs.declared.Segment.{Segment}
 use Rattle.ranges.specs.declared.RangeState.{RangeState}
 use Rattle.ranges.specs.declared.Absorbed.{Absorbed}
 use Rattle.ranges.specs.declared.Committed.the-variants.{None, One, Two}
 use Rattle.ranges.specs.Steps.{deltaOf, seg, idle, begun, grown, turned, absorbed, pays, commit, step, finish, toList, closing, cutFrom, entries}
 use Rattle.ranges.specs.Cutting.{nextCode, nextGlyph, rangesOf, runsOf, reaches, Cut, loneDelta, cutOf, commitRun, cutRuns, cutRange, cuts, lastCode, segmentOf, segments, glyphs, glyphArray, arrayFrom}
-use Rattle.ranges.proofs.CuttingLaws.{concat-snoc, last-append, segments-closed, array-from, length-array}
+use Rattle.ranges.proofs.CuttingLaws.{last-append, segments-closed, array-from, length-array}
 
 -- ---- a run as the walk has gathered it: from x to l
 
