@@ -1,7 +1,6 @@
 -- What holds of each element of lists that are joined, mapped or cut.
 use Prim.Native.Nat.{ℕ, zero, suc, _<_}
 use native.Mathlib.Omega.{arith}
-use mathlib.Core.Path.{_≡_, refl}
 use mathlib.Core.List.{List, [], _∷_, _++_, map}
 use mathlib.Core.Bool.{Bool}
 use lib.ListN.{length, getD}
@@ -26,12 +25,12 @@ module _ {A : Type 0} (P : A → Type 0) where
   each-getD d [] h = tt
   each-getD d (x ∷ xs) h = (h 0 (omega arith), each-getD d xs (λ i k. h (suc i) (omega arith)))
 
-  pub getD-each : (d : A) (xs : List A) (i : ℕ) → Each P xs → i < length xs → P (getD xs i d)
-  getD-each d [] i h k = absurd (omega arith)
-  getD-each d (x ∷ xs) zero h k = h .0
-  getD-each d (x ∷ xs) (suc i) h k = getD-each d xs i (h .1) (omega arith)
+  pub each-at : (d : A) (xs : List A) → P d → Each P xs → (i : ℕ) → P (getD xs i d)
+  each-at d [] p h i = p
+  each-at d (x ∷ xs) p h zero = h .0
+  each-at d (x ∷ xs) p h (suc i) = each-at d xs p (h .1) i
 
-  each-parts : (xss : List (List A)) → Each P (concat xss) → Each (Each P) xss
+  pub each-parts : (xss : List (List A)) → Each P (concat xss) → Each (Each P) xss
   unfolding concat
   each-parts [] h = tt
   each-parts (xs ∷ xss) h = (each-left xs (concat xss) h, each-parts xss (each-right xs (concat xss) h))

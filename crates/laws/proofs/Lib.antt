@@ -13,3 +13,4 @@ pub mod RisingEachLaws
 pub mod RunsLaws
 pub mod PartedLaws
 pub mod TestLaws
+pub mod PairsLaws

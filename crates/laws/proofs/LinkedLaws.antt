@@ -10,10 +10,6 @@ pub filled-left : {A : Type 0} (xs ys : List A) → Filled xs → Filled (xs ++ 
 filled-left [] ys h = absurd h
 filled-left (x ∷ xs) ys h = tt
 
-pub filled-right : {A : Type 0} (xs ys : List A) → Filled ys → Filled (xs ++ ys)
-filled-right [] ys h = h
-filled-right (x ∷ xs) ys h = tt
-
 module _ {A : Type 0} (joins : A → A → Bool) where
   pub linked-filled : (xs : List A) → Linked joins xs → Filled xs
   linked-filled [] h = h

@@ -1,10 +1,14 @@
--- The first piece of a list: it begins with the list's first element, and what joins it from before becomes part of it.
-use mathlib.Core.Path.{_≡_, refl, sym, ap, _∙_}
-use mathlib.Core.List.{List, [], _∷_, _++_}
+-- The first piece of a list: it begins with the list's first element, and what joins it from before becomes part of it. And a piece more at the end.
+use mathlib.Core.Path.{_≡_, refl, ap, _∙_}
+use mathlib.Core.List.{List, [], _∷_, _++_, append-nil}
 use mathlib.Core.Bool.{Bool, true, false}
 use Rattle.laws.specs.Choice.{pick}
-use Rattle.laws.specs.Pieces.{onto, pieces}
-use Rattle.laws.proofs.PiecesLaws.{Joined, lone, more}
+use Rattle.laws.specs.Pieces.{onto, pieces, concat}
+use Rattle.laws.proofs.PiecesLaws.{Joined, lone, more, concat-append}
+
+pub concat-snoc : {A : Type 0} (xss : List (List A)) (xs : List A) → concat (xss ++ (xs ∷ [])) ≡ concat xss ++ xs
+unfolding concat
+concat-snoc {A} xss xs = concat-append xss (xs ∷ []) ∙ ap (λ (ys : List A). concat xss ++ ys) (append-nil xs)
 
 -- elements that join the first piece
 abbrev pub prefixed : {A : Type 0} → List A → List (List A) → List (List A)

@@ -2,7 +2,6 @@
 use Prim.Native.Nat.{ℕ, suc, _<_}
 use native.Mathlib.Omega.{arith}
 use mathlib.Core.List.{List, [], _∷_, _++_}
-use lib.ListN.{length, getD}
 use Rattle.laws.specs.Lists.{Rising}
 use Rattle.laws.specs.Linked.{Each}
 use Rattle.laws.proofs.RisingLaws.{rising-lt, rising-tail}

@@ -1,12 +1,12 @@
 -- The cuts of a list of pairs are that list in parts, each of adjacent code points; and the glyph array can be found segment by segment.
-use Prim.Native.Nat.{ℕ, suc, _+_, _-_, _*_}
+use Prim.Native.Nat.{ℕ, _+_, _-_}
 use native.Mathlib.Omega.{arith}
 use native.Mathlib.Nat.{zero-add}
 use mathlib.Core.Path.{_≡_, refl, sym, _∙_, ap}
 use mathlib.Core.List.{List, [], _∷_, _++_, map, map-append, append-assoc, append-nil}
 use mathlib.Core.Bool.{Bool, true, false, not}
 use lib.Dec.{eqb, leb}
-use lib.ListN.{length, take, drop, length-append, length-map}
+use lib.ListN.{length, length-append, length-map}
 use lib.Seq.{take-at, drop-at}
 use borrow.Author.Tests.{eqb-true}
 use Rattle.laws.specs.Choice.{pick, both}
@@ -15,18 +15,14 @@ use Rattle.laws.specs.Pieces.{pieces, concat}
 use Rattle.laws.specs.Linked.{Each, Filled, Linked}
 use Rattle.laws.proofs.ChoiceLaws.{by-pick, both-left, false-true}
 use Rattle.laws.proofs.PiecesLaws.{concat-append, concat-pieces}
-use Rattle.laws.proofs.PiecesFirstLaws.{First, pieces-first}
+use Rattle.laws.proofs.PiecesFirstLaws.{concat-snoc, pieces-first}
 use Rattle.laws.proofs.EachLaws.{each-append, each-of, each-map, each-mapped, each-concat}
 use Rattle.laws.proofs.LinkedLaws.{filled-left, linked-filled, pieces-linked, linked-parts}
 use Rattle.ranges.specs.declared.Segment.{Segment}
-use Rattle.ranges.specs.Steps.{closing, entries, entriesOf}
-use Rattle.ranges.specs.Cutting.{nextCode, nextGlyph, rangesOf, runsOf, reaches, Cut, cutOf, present, commitRun, cutRuns, cutRange, cuts, firstCode, lastCode, segmentOf, lastEnd, closed, segments, glyphs, arrayOf, glyphArray, arrayFrom}
+use Rattle.ranges.specs.Steps.{closing, entries}
+use Rattle.ranges.specs.Cutting.{nextCode, nextGlyph, rangesOf, runsOf, reaches, Cut, cutOf, present, commitRun, cutRuns, cutRange, cuts, firstCode, lastCode, segmentOf, lastEnd, segments, glyphs, arrayOf, glyphArray, arrayFrom}
 
--- ---- runs joined
-
-pub concat-snoc : (runs : List (List Pair)) (run : List Pair) → concat (runs ++ (run ∷ [])) ≡ concat runs ++ run
-unfolding concat
-concat-snoc runs run = concat-append runs (run ∷ []) ∙ ap (λ (ps : List Pair). concat runs ++ ps) (append-nil run)
+-- ---- adjacent code points
 
 pub last-append : (ps qs : List Pair) → Filled qs → lastCode (ps ++ qs) ≡ lastCode qs
 last-append ps [] h = absurd h
@@ -34,7 +30,7 @@ last-append [] (q ∷ qs) h = refl
 last-append (p ∷ []) (q ∷ qs) h = refl
 last-append (p ∷ p′ ∷ ps) (q ∷ qs) h = last-append (p′ ∷ ps) (q ∷ qs) h
 
--- adjacent code points: as many as there are from the first to the last
+-- as many as there are from the first to the last
 linked-last : (ps : List Pair) → Linked nextCode ps → lastCode ps + 1 ≡ firstCode ps + length ps
 linked-last [] h = absurd h
 linked-last (p ∷ []) h = refl

@@ -1,5 +1,5 @@
 -- The cutting of a list of pairs into the segments of a format 4 table, as 01 tells it ("Format 4"): ranges, the runs inside
--- them, and which runs are committed together. Steps.antt has the same pair by pair; CuttingLaws.antt shows that the two agree.
+-- them, and which runs are committed together. Steps.antt goes pair by pair, as the code does; that it gives the same is walk-cuts.
 use Prim.Native.Nat.{ℕ, _+_, _-_, _*_}
 use mathlib.Core.List.{List, [], _∷_, _++_, map}
 use mathlib.Core.Bool.{Bool, true, false, not}
@@ -19,11 +19,11 @@ nextCode p q = eqb (q .0) (p .0 + 1)
 abbrev pub nextGlyph : Pair → Pair → Bool
 nextGlyph p q = eqb (q .1) (p .1 + 1)
 
--- "Adjacent code points form a range;
+-- "Adjacent code points form a range; ..
 abbrev pub rangesOf : List Pair → List (List Pair)
 rangesOf ps = pieces nextCode ps
 
--- inside it adjacent glyphs form runs."
+-- .. inside it adjacent glyphs form runs."
 abbrev pub runsOf : List Pair → List (List Pair)
 runsOf range = pieces nextGlyph range
 
@@ -53,6 +53,7 @@ loneDelta (run ∷ next ∷ runs) = 0
 abbrev pub cutOf : List (List Pair) → Cut
 cutOf runs = record { pairs = concat runs; delta = loneDelta runs }
 
+-- there are runs
 abbrev pub present : List (List Pair) → Bool
 present [] = false
 present (run ∷ runs) = true
@@ -65,9 +66,9 @@ commitRun cost earlier run =
     (cutOf earlier ∷ cutOf (run ∷ []) ∷ [])
     (cutOf (earlier ++ (run ∷ [])) ∷ [])
 
--- The rest of a range's runs, after the earlier ones that are not committed; the first of them is tried at the cost.
--- "A range's end always commits, at cost 8." "When a run ends and the range goes on, it is committed if 2·length is at least"
--- the cost, which is 16 after the range's first run.
+-- What is left of a range: the earlier runs are not committed yet, and the cost is that of the next run.
+-- "A range's end always commits, at cost 8." Where it goes on, a run "is committed if 2·length is at least 8 for the range's first
+-- run, 16 for every later one"; else it is one of the earlier runs for the next.
 unfoldable pub cutRuns : ℕ → List (List Pair) → List (List Pair) → List Cut
 cutRuns cost earlier [] = []
 cutRuns cost earlier (run ∷ []) = commitRun 8 earlier run
@@ -76,7 +77,6 @@ cutRuns cost earlier (run ∷ next ∷ runs) =
     (commitRun cost earlier run ++ cutRuns 16 [] (next ∷ runs))
     (cutRuns 16 (earlier ++ (run ∷ [])) (next ∷ runs))
 
--- "8 for the range's first run"
 abbrev pub cutRange : List Pair → List Cut
 cutRange range = cutRuns 8 [] (runsOf range)
 
@@ -124,7 +124,7 @@ unfoldable pub glyphArray : List Pair → List ℕ
 unfolding cuts
 glyphArray ps = concat (map arrayOf (cuts ps))
 
--- the same found segment by segment: each takes the glyphs of its code points off those listed
+-- the glyph array found segment by segment: each takes the glyphs of its code points off those that are listed
 unfoldable pub arrayFrom : List ℕ → List Segment → List ℕ
 arrayFrom gs [] = []
 arrayFrom gs (x ∷ xs) =

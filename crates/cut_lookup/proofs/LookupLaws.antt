@@ -1,0 +1,166 @@
+-- Looking a code point up in the segments that a rising list of pairs is cut into gives its listed glyph, or 0 where none is listed.
+use Prim.Native.Nat.{ℕ, zero, suc, _+_, _-_, _%_, _≤_, _<_}
+use native.Mathlib.Omega.{arith}
+use mathlib.Core.Path.{_≡_, refl, sym, _∙_}
+use mathlib.Core.List.{List, [], _∷_, _++_, map, map-append, append-nil}
+use mathlib.Core.Bool.{Bool, true, false, not}
+use lib.Dec.{eqb, leb}
+use lib.ListN.{length, getD, drop, length-map, List·getD-append}
+use lib.Seq.{drop-at}
+use borrow.Author.Tests.{le-leb, lt-leb, leb-true, leb-false, eq-eqb, ne-eqb, eqb-true, eqb-false}
+use Rattle.laws.specs.Choice.{pick}
+use Rattle.laws.specs.Lists.{Pair, pairs, Rising}
+use Rattle.laws.specs.Pieces.{concat}
+use Rattle.laws.specs.Linked.{Each, Filled, Linked}
+use Rattle.laws.proofs.ChoiceLaws.{by-pick, by-leb, false-true}
+use Rattle.laws.proofs.EachLaws.{each-of, each-both, each-pieces}
+use Rattle.laws.proofs.LinkedLaws.{linked-filled, pieces-linked}
+use Rattle.laws.proofs.PairsLaws.{firsts-pairs, each-pairs}
+use Rattle.laws.proofs.RisingEachLaws.{Climbs, rising-climbs, climbs-right}
+use Rattle.ranges.specs.Steps.{closing, entriesOf}
+use Rattle.ranges.specs.Cutting.{nextCode, nextGlyph, rangesOf, runsOf, Cut, cutOf, present, cutRange, cuts, runDelta, firstCode, lastCode, segmentOf, segments, glyphs, arrayOf, glyphArray}
+use Rattle.ranges.proofs.CuttingLaws.{parts, Adjacent, linked-length, cuts-pairs, runs-each, cuts-each, cuts-adjacent, segments-closed}
+use Rattle.cut_lookup.specs.Lookup.{valueIn, lookupIn, glyphOf, codes, Fits, Listed}
+
+-- ---- a run's delta tells its glyphs
+
+-- a delta that is not 0 leads from each code point to its glyph
+abbrev Told : Cut → Type 0
+Told x = (x .delta ≡ 0 → ⊥) → (k : ℕ) → k < length (x .pairs) → (firstCode (x .pairs) + k + x .delta) % 65536 ≡ getD (glyphs (x .pairs)) k 0
+
+abbrev Run : List Pair → Type 0
+Run run = Linked nextGlyph run × Each Fits run
+
+glyph-at : (p : Pair) (run : List Pair) (k : ℕ) → Linked nextGlyph (p ∷ run) → k < length (p ∷ run) → getD (glyphs (p ∷ run)) k 0 ≡ p .1 + k
+glyph-at p run zero h l = omega arith
+glyph-at p [] (suc k) h l = absurd (omega arith)
+glyph-at p (q ∷ run) (suc k) h l =
+    let e = glyph-at q run k (h .1) (omega arith) in
+    let f = eqb-true (q .1) (p .1 + 1) (h .0) in
+    omega arith
+
+glyph-fits : (ps : List Pair) (k : ℕ) → Each Fits ps → k < length ps → getD (glyphs ps) k 0 < 65536
+glyph-fits [] k h l = absurd (omega arith)
+glyph-fits (p ∷ ps) zero h l = h .0 .1
+glyph-fits (p ∷ ps) (suc k) h l = glyph-fits ps k (h .1) (omega arith)
+
+run-told : (run : List Pair) → Run run → (k : ℕ) → k < length run → (firstCode run + k + runDelta run) % 65536 ≡ getD (glyphs run) k 0
+run-told [] h k l = absurd (h .0)
+run-told (p ∷ run) h k l =
+    let e = glyph-at p run k (h .0) l in
+    let b = glyph-fits (p ∷ run) k (h .1) l in
+    let c = h .1 .0 .0 in
+    rw e (omega arith)
+
+runs-told : (runs : List (List Pair)) → present runs ≡ true → Each Run runs → Told (cutOf runs)
+unfolding concat
+runs-told [] e h n = absurd (false-true e)
+runs-told (run ∷ []) e h n = rw (append-nil run) (run-told run (h .0))
+runs-told (run ∷ next ∷ runs) e h n = absurd (n refl)
+
+range-told : (range : List Pair) → Each Fits range → Each Told (cutRange range)
+range-told range h =
+    runs-each Run Told runs-told 8 [] (runsOf range) tt
+    (each-both (Linked nextGlyph) (Each Fits) (runsOf range) (pieces-linked nextGlyph range) (each-pieces Fits nextGlyph range h))
+
+cuts-told : (ps : List Pair) → Each Fits ps → Each Told (cuts ps)
+cuts-told ps h = cuts-each Told ps (each-of (Each Fits) (λ (range : List Pair). Each Told (cutRange range)) range-told (rangesOf ps) (each-pieces Fits nextCode ps h))
+
+-- ---- the glyph of a code point among the pairs
+
+-- pairs of other code points are passed over
+listed-not : (ps qs : List Pair) (c : ℕ) → Each (λ (n : ℕ). n ≡ c → ⊥) (codes ps) → glyphOf (ps ++ qs) c ≡ glyphOf qs c
+unfolding glyphOf
+listed-not [] qs c h = refl
+listed-not (p ∷ ps) qs c h = rw (ne-eqb (p .0) c (h .0)) (listed-not ps qs c (h .1))
+
+listed-at : (ps qs : List Pair) (k : ℕ) → Linked nextCode ps → k < length ps → glyphOf (ps ++ qs) (firstCode ps + k) ≡ getD (glyphs ps) k 0
+unfolding glyphOf
+listed-at [] qs k h l = absurd h
+listed-at (p ∷ ps) qs zero h l = rw (eq-eqb (p .0) (p .0 + 0) (omega arith))
+listed-at (p ∷ []) qs (suc k) h l = absurd (omega arith)
+listed-at (p ∷ q ∷ ps) qs (suc k) h l =
+    let f = eqb-true (q .0) (p .0 + 1) (h .0) in
+    let e : p .0 + suc k ≡ q .0 + k = omega arith in
+    rw (ne-eqb (p .0) (p .0 + suc k) (λ z. omega arith), e) (listed-at (q ∷ ps) qs k (h .1) (omega arith))
+
+-- the code points of a cut lie below what lies past its last
+past-last : (ps : List Pair) (c : ℕ) → Linked nextCode ps → lastCode ps < c → Each (λ (n : ℕ). n ≡ c → ⊥) (codes ps)
+past-last [] c h l = absurd h
+past-last (p ∷ []) c h l = (λ e. omega arith, tt)
+past-last (p ∷ q ∷ ps) c h l = let e = linked-length (p ∷ q ∷ ps) h in ((λ z. omega arith), past-last (q ∷ ps) c (h .1) l)
+
+-- what lies below the first of rising code points is not listed
+before-first : (ps : List Pair) (c : ℕ) → Climbs (codes ps) → c < firstCode ps → glyphOf ps c ≡ 0
+before-first [] c h l = absurd (omega arith)
+before-first (p ∷ ps) c h l =
+    let others = each-of (λ (n : ℕ). p .0 < n) (λ (n : ℕ). n ≡ c → ⊥) (λ n k e. omega arith) (codes ps) (h .0) in
+    rw (append-nil ps) at (listed-not (p ∷ ps) [] c ((λ e. omega arith), others)) ∙ unfold glyphOf in refl
+
+first-append : (ps qs : List Pair) → Filled ps → firstCode (ps ++ qs) ≡ firstCode ps
+first-append [] qs h = absurd h
+first-append (p ∷ ps) qs h = refl
+
+-- ---- the lookup
+
+closing-none : (array : List ℕ) (t : Bool) (c : ℕ) → c < 65536 → lookupIn array (closing t) c ≡ 0
+unfolding lookupIn
+closing-none array false c h = refl
+closing-none array true c h = by-leb _ 65535 c
+    (λ k. rw (le-leb c 65535 (omega arith), le-leb 65535 c k) (omega arith))
+    (λ k. rw (le-leb c 65535 (omega arith), lt-leb 65535 c k))
+
+module _ (x : Cut) (array : List ℕ) (a : Adjacent x) where
+  -- the entries of one cut are passed over with it
+  drop-entries : drop (entriesOf (segmentOf x)) (arrayOf x ++ array) ≡ array
+  drop-entries = rw (linked-length (x .pairs) a) (go (eqb (x .delta) 0))
+    where
+      go : (t : Bool) → drop (pick t (length (x .pairs)) 0) (pick t (glyphs (x .pairs)) [] ++ array) ≡ array
+      go true = drop-at (glyphs (x .pairs)) array (length (x .pairs)) (length-map (x .pairs) (λ (p : Pair). p .1))
+      go false = refl
+
+  -- the k-th code point of a cut
+  value-at : (rest : List Pair) → Told x → (k : ℕ) → k < length (x .pairs) → valueIn (arrayOf x ++ array) (segmentOf x) (firstCode (x .pairs) + k) ≡ glyphOf (x .pairs ++ rest) (firstCode (x .pairs) + k)
+  value-at rest told k l =
+      let e : firstCode (x .pairs) + k - firstCode (x .pairs) ≡ k = omega arith in
+      rw (listed-at (x .pairs) rest k a l, e) (go (eqb (x .delta) 0) refl)
+    where
+      go : (t : Bool) → eqb (x .delta) 0 ≡ t
+          → pick t (getD (pick t (glyphs (x .pairs)) [] ++ array) k 0) ((firstCode (x .pairs) + k + x .delta) % 65536) ≡ getD (glyphs (x .pairs)) k 0
+      go true d = List·getD-append (glyphs (x .pairs)) array 0 k (omega (arith, length-map (x .pairs) (λ (p : Pair). p .1)))
+      go false d = told (eqb-false (x .delta) 0 d) k l
+
+  value-in : (rest : List Pair) → Told x → (c : ℕ) → firstCode (x .pairs) ≤ c → c ≤ lastCode (x .pairs) → valueIn (arrayOf x ++ array) (segmentOf x) c ≡ glyphOf (x .pairs ++ rest) c
+  value-in rest told c f l =
+      let n = linked-length (x .pairs) a in
+      let e : firstCode (x .pairs) + (c - firstCode (x .pairs)) ≡ c = omega arith in
+      rw e at (value-at rest told (c - firstCode (x .pairs)) (omega arith))
+
+cuts-find : (cs : List Cut) (t : Bool) (c : ℕ) → c < 65536 → Climbs (codes (concat (parts cs))) → Each Adjacent cs → Each Told cs
+    → lookupIn (concat (map arrayOf cs)) (map segmentOf cs ++ closing t) c ≡ glyphOf (concat (parts cs)) c
+unfolding lookupIn concat
+cuts-find [] t c h r a d = closing-none [] t c h ∙ unfold glyphOf in refl
+cuts-find (x ∷ cs) t c h r a d =
+    let ps = x .pairs in
+    let rest = concat (parts cs) in
+    let array = concat (map arrayOf cs) in
+    let P : ℕ → Type 0 = λ n. n ≡ glyphOf (ps ++ rest) c in
+    let value = valueIn (arrayOf x ++ array) (segmentOf x) c in
+    by-pick P (leb c (lastCode ps)) (pick (leb (firstCode ps) c) value 0) (lookupIn (drop (entriesOf (segmentOf x)) (arrayOf x ++ array)) (map segmentOf cs ++ closing t) c)
+    (λ e. by-pick P (leb (firstCode ps) c) value 0
+    (λ f. value-in x array (a .0) rest (d .0) c (leb-true (firstCode ps) c f) (leb-true c (lastCode ps) e))
+    (λ f. sym (before-first (ps ++ rest) c r (rw (first-append ps rest (linked-filled nextCode ps (a .0))) (leb-false (firstCode ps) c f)))))
+    (λ e. rw (drop-entries x array (a .0), listed-not ps rest c (past-last ps c (a .0) (leb-false c (lastCode ps) e)))
+    (cuts-find cs t c h (climbs-right (codes ps) (codes rest) (rw (map-append (λ (p : Pair). p .0) ps rest) at r)) (a .1) (d .1)))
+
+-- the key fact: a code point is found with its listed glyph, and with 0 where none is listed
+pub segments-find : (ps : List Pair) (c : ℕ) → Listed ps → c < 65536 → lookupIn (glyphArray ps) (segments ps) c ≡ glyphOf ps c
+unfolding glyphArray
+segments-find ps c l h =
+    let r = rising-climbs (codes ps) (l .rising) in
+    let f = cuts-find (cuts ps) (not (eqb (lastCode ps) 65535)) c h (rw (cuts-pairs ps) r) (cuts-adjacent ps) (cuts-told ps (l .fits)) in
+    rw (segments-closed ps) (rw (cuts-pairs ps) at f)
+
+-- two slices of equal length as pairs that a table can hold
+pub listed-pairs : (cs gs : List ℕ) → length cs ≡ length gs → Rising cs → Each (λ (n : ℕ). n < 65536) cs → Each (λ (n : ℕ). n < 65536) gs → Listed (pairs cs gs)
+listed-pairs cs gs e r a b = record { rising = rw (firsts-pairs cs gs e) r; fits = each-pairs (λ (n : ℕ). n < 65536) (λ (n : ℕ). n < 65536) cs gs a b }
