@@ -5,3 +5,4 @@ pub mod RisingLaws
 pub mod PiecesLaws
 pub mod StandsLaws
 pub mod EitherLaws
+pub mod SameLaws
