@@ -14,3 +14,4 @@ pub mod RunsLaws
 pub mod PartedLaws
 pub mod TestLaws
 pub mod PairsLaws
+pub mod SameLaws

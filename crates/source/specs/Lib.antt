@@ -1,3 +1,4 @@
 pub mod Header
 pub mod Kind
+pub mod Fields
 pub mod Room
