@@ -1,12 +1,12 @@
 -- The header's numbers and each group's read back from the bytes, wherever the subtable stands.
 use Prim.Native.Nat.{ℕ, zero, suc, _+_, _*_, _^_, _≤_, _<_}
-use mathlib.Core.Path.{_≡_, refl, sym, ap, _∙_}
-use mathlib.Core.List.{List, [], _∷_, _++_, map, append-nil}
-use native.Mathlib.Nat.{mul-suc, add-assoc, not-suc-le-zero}
+use mathlib.Core.Path.{_≡_, refl, _∙_}
+use mathlib.Core.List.{List, [], _∷_, _++_, map}
+use native.Mathlib.Nat.{add-zero, add-assoc, not-suc-le-zero}
 use native.Mathlib.Omega.{arith}
 use lib.ListN.{length, getD, length-append}
 use Rattle.laws.specs.Lists.{Pair}
-use Rattle.laws.specs.Pieces.{pieces, concat}
+use Rattle.laws.specs.Pieces.{concat}
 use Rattle.laws.proofs.PiecesLaws.{Joined, concat-pieces}
 use Rattle.laws.proofs.PartedLaws.{Parted, parted-none, parted-last, parted-more, pieces-parted}
 use Rattle.number.specs.BigEndian.{be}
@@ -16,9 +16,8 @@ use Rattle.number.proofs.ColumnsLaws.{length-encs, be-encs}
 use Rattle.format12.specs.declared.Group.{Group}
 use Rattle.format12.specs.Format12.{consecutive, group, groupOf, grouped, groups, fields, tableLength, header, table, format12}
 use Rattle.format12.proofs.GroupsLaws.{last-joined}
-use Rattle.format12.proofs.WalkLaws.{length-group-bytes}
-use Rattle.format12.proofs.TableLaws.{length-header}
-use Rattle.format12_lookup.specs.Lookup.{Above, GroupAt, HeaderAt}
+use Rattle.format12.proofs.TableLaws.{length-header, length-table}
+use Rattle.format12_lookup.specs.Lookup.{Above, GroupAt, HeaderAt, TableAt}
 use Rattle.format12_lookup.proofs.LookupLaws.{above-first, row-rest}
 
 -- ---- numbers that fit four bytes
@@ -103,7 +102,26 @@ module _ (format language n : ℕ) (rest : List ℕ) where
       be-front 4 (encs 2 (format ∷ 0 ∷ []) ++ encs 4 ns) rest at (rw (length-append (encs 2 (format ∷ 0 ∷ [])) (encs 4 ns), length-encs 2 (format ∷ 0 ∷ []), length-encs 4 ns) (omega (arith, e, l)))
       ∙ rw p (be-back 4 (encs 2 (format ∷ 0 ∷ [])) (encs 4 ns) (4 * k) ∙ be-encs 4 ns k h)
 
--- ---- the subtable of the pairs
+-- ---- the subtable of the pairs, between other bytes
+
+be-between : (w : ℕ) (front xs back : List ℕ) (at : ℕ) → at + w ≤ length xs → be w (front ++ (xs ++ back)) (length front + at) ≡ be w xs at
+be-between w front xs back at h = be-back w front (xs ++ back) at ∙ be-front w xs back at h
+
+module _ (front xs back : List ℕ) where
+  group-between : {at : ℕ} {g : Group} → GroupAt xs at g → at + 12 ≤ length xs → GroupAt (front ++ (xs ++ back)) (length front + at) g
+  group-between {at} r h = record {
+    start = be-between 4 front xs back at (omega arith) ∙ r .start;
+    end = rw (add-assoc (length front) at 4) (be-between 4 front xs back (at + 4) (omega arith) ∙ r .end);
+    glyph = rw (add-assoc (length front) at 8) (be-between 4 front xs back (at + 8) (omega arith) ∙ r .glyph);
+  }
+
+  header-between : {format bytes language n : ℕ} → HeaderAt xs 0 format bytes language n → 16 ≤ length xs → HeaderAt (front ++ (xs ++ back)) (length front) format bytes language n
+  header-between r h = record {
+    format-is = rw (add-zero (length front)) at (be-between 2 front xs back 0 (omega arith)) ∙ r .format-is;
+    length-is = be-between 4 front xs back 4 (omega arith) ∙ r .length-is;
+    language-is = be-between 4 front xs back 8 (omega arith) ∙ r .language-is;
+    count-is = be-between 4 front xs back 12 (omega arith) ∙ r .count-is;
+  }
 
 module _ (language : ℕ) (ps : List Pair) where
   pub format12-group : Above 0 ps → (k : ℕ) (d : Group) → k < length (groups ps) → GroupAt (format12 language ps) (16 + 12 * k) (getD (groups ps) k d)
@@ -121,15 +139,11 @@ module _ (language : ℕ) (ps : List Pair) where
         count-is = header-number 12 language n b 2 12 (omega arith) (omega arith) (omega (arith, m));
       }
 
--- ---- between other bytes
-
-be-between : (w : ℕ) (front xs back : List ℕ) (at : ℕ) → at + w ≤ length xs → be w (front ++ (xs ++ back)) (length front + at) ≡ be w xs at
-be-between w front xs back at h = be-back w front (xs ++ back) at ∙ be-front w xs back at h
-
-module _ (front xs back : List ℕ) where
-  pub group-between : {at : ℕ} {g : Group} → GroupAt xs at g → at + 12 ≤ length xs → GroupAt (front ++ (xs ++ back)) (length front + at) g
-  group-between {at} r h = record {
-    start = be-between 4 front xs back at (omega arith) ∙ r .start;
-    end = rw (add-assoc (length front) at 4) (be-between 4 front xs back (at + 4) (omega arith) ∙ r .end);
-    glyph = rw (add-assoc (length front) at 8) (be-between 4 front xs back (at + 8) (omega arith) ∙ r .glyph);
-  }
+  pub format12-at : (front back : List ℕ) (d : Group) → Above 0 ps → language < 4294967296 → length (groups ps) ≤ 65535
+      → TableAt (front ++ (format12 language ps ++ back)) (length front) 12 language (groups ps) d
+  format12-at front back d a l m =
+      let e = length-table 12 language (groups ps) in
+      record {
+        header = header-between front (format12 language ps) back (format12-header l m) (omega (arith, e));
+        group = λ k h. group-between front (format12 language ps) back (format12-group a k d h) (omega (arith, e, h));
+      }

@@ -1,15 +1,14 @@
 -- A lookup in the groups of the pairs finds the listed glyph of every listed code point, and nothing at any other.
-use Prim.Native.Nat.{ℕ, zero, suc, _+_, _-_, _≤_, _<_}
+use Prim.Native.Nat.{ℕ, suc, _+_, _-_, _≤_, _<_}
 use mathlib.Core.Path.{_≡_, refl, sym, ap, _∙_}
-use mathlib.Core.List.{List, [], _∷_, _++_, map, append-nil}
-use mathlib.Core.Bool.{Bool, true, false}
+use mathlib.Core.List.{List, [], _∷_, _++_, map}
 use native.Mathlib.Omega.{arith}
 use borrow.Author.Tests.{le-leb, lt-leb, eq-eqb, ne-eqb}
 use lib.Dec.{leb}
 use lib.ListN.{length, getD}
 use Rattle.laws.specs.Choice.{pick, ifLt, ifLe}
 use Rattle.laws.specs.Lists.{Pair, pairs, Rising}
-use Rattle.laws.specs.Pieces.{pieces, concat}
+use Rattle.laws.specs.Pieces.{concat}
 use Rattle.laws.proofs.ChoiceLaws.{by-leb, if-lt, else-lt, if-le}
 use Rattle.laws.proofs.RisingLaws.{rising-tail}
 use Rattle.laws.proofs.PiecesLaws.{Joined, lone, more, concat-pieces}

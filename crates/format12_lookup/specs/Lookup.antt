@@ -1,14 +1,16 @@
 -- What a lookup finds in groups (docs/01-rules.md, "Heads", format 12), and what the pairs list.
 -- Both are told by `none`, nothing there, and `glyph`, a glyph there, which may be 0.
-use Prim.Native.Nat.{ℕ, suc, _+_, _-_, _≤_}
+use Prim.Native.Nat.{ℕ, suc, _+_, _-_, _*_, _≤_, _<_}
 use mathlib.Core.Path.{_≡_}
 use mathlib.Core.List.{List, [], _∷_}
+use lib.ListN.{length, getD}
 use lib.Dec.{leb, eqb}
 use Rattle.laws.specs.Choice.{pick, ifLt, ifLe}
 use Rattle.laws.specs.Lists.{Pair}
 use Rattle.number.specs.BigEndian.{be}
 use Rattle.number.specs.Limits.{unicodeMax}
 use Rattle.format12.specs.declared.Group.{Group}
+use Rattle.format12.specs.Format12.{tableLength}
 
 -- none where start exceeds c, or the glyph exceeds 65,535
 unfoldable pub inGroup : {A : Type 0} → A → (ℕ → A) → Group → ℕ → A
@@ -43,3 +45,8 @@ pub record HeaderAt (xs : List ℕ) (at format bytes language n : ℕ) : Type 0 
   pub length-is : be 4 xs (at + 4) ≡ bytes
   pub language-is : be 4 xs (at + 8) ≡ language
   pub count-is : be 4 xs (at + 12) ≡ n
+
+-- the bytes from `at` on are a subtable of these groups; d stands for a group that is not there
+pub record TableAt (xs : List ℕ) (at format language : ℕ) (gs : List Group) (d : Group) : Type 0 where
+  pub header : HeaderAt xs at format (tableLength (length gs)) language (length gs)
+  pub group : (k : ℕ) → k < length gs → GroupAt xs (at + (16 + 12 * k)) (getD gs k d)

@@ -5,3 +5,4 @@ pub mod RisingLaws
 pub mod PiecesLaws
 pub mod PartedLaws
 pub mod TestLaws
+pub mod FirstLaws

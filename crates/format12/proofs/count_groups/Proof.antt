@@ -5,12 +5,6 @@ use borrow.Author.Needs.{needs}
 use Rattle.format12.proofs.WalkLaws.{Counting, counting}
 use Rattle.format12.proofs.count_groups.Statement.{statement}
 use Rattle.format12.proofs.count_groups.Tie as tie
-use Rattle.format12.proofs.count_groups.Reads as reads
-use Rattle.format12.proofs.count_groups.Lts as lts
-use Rattle.format12.proofs.GroupState.absorb.Reads as absorb-reads
-use Rattle.format12.proofs.GroupState.finish.Reads as finish-reads
-use Rattle.format12.proofs.GroupState.new.Reads as new-reads
-use Rattle.format12.proofs.count_ended.Reads as count-ended-reads
 
 abbrev Inv-loop : tie.InvT-loop
 Inv-loop codes glyphs state₀ n₀ i₀ state n i = Counting codes glyphs state n i
@@ -18,67 +12,51 @@ Inv-loop codes glyphs state₀ n₀ i₀ state n i = Counting codes glyphs state
 abbrev μ-loop : tie.MeasureT-loop
 μ-loop codes glyphs state₀ n₀ i₀ state n i = length codes - i
 
--- src/lib.rt:130:9
 new-requires : tie.Need-new-requires Inv-loop μ-loop
 new-requires c κs = search needs
 
--- src/lib.rt:133:5
 loop-holds : tie.Need-loop-holds Inv-loop μ-loop
 loop-holds c = search (needs, counting)
 
--- src/lib.rt:134:30
 mul-absorb : tie.Need-mul-absorb Inv-loop μ-loop
 mul-absorb c = search needs
 
--- src/lib.rt:134:30
 shared-slice-read-absorb : tie.Need-shared-slice-read-absorb Inv-loop μ-loop
 shared-slice-read-absorb c = search needs
 
--- src/lib.rt:134:40
 mul-absorb-2 : tie.Need-mul-absorb-2 Inv-loop μ-loop
 mul-absorb-2 c = search needs
 
--- src/lib.rt:134:40
 shared-slice-read-absorb-2 : tie.Need-shared-slice-read-absorb-2 Inv-loop μ-loop
 shared-slice-read-absorb-2 c = search needs
 
--- src/lib.rt:134:13
 absorb-requires : tie.Need-absorb-requires Inv-loop μ-loop
 absorb-requires c κs = search needs
 
--- src/lib.rt:137:14
 count-ended-requires : tie.Need-count-ended-requires Inv-loop μ-loop
 count-ended-requires c κs = search needs
 
--- src/lib.rt:137:9
 add-n : tie.Need-add-n Inv-loop μ-loop
 add-n c = search needs
 
--- src/lib.rt:139:9
 add-i : tie.Need-add-i Inv-loop μ-loop
 add-i c = search needs
 
--- src/lib.rt:133:5
 loop-less : tie.Need-loop-less Inv-loop μ-loop
 loop-less c = search needs
 
--- src/lib.rt:133:5
 loop-again : tie.Need-loop-again Inv-loop μ-loop
 loop-again c = search (needs, counting)
 
--- src/lib.rt:141:21
 finish-requires : tie.Need-finish-requires Inv-loop μ-loop
 finish-requires c κs = search needs
 
--- src/lib.rt:141:9
 count-ended-requires-2 : tie.Need-count-ended-requires-2 Inv-loop μ-loop
 count-ended-requires-2 c κs = search needs
 
--- src/lib.rt:141:5
 add-result : tie.Need-add-result Inv-loop μ-loop
 add-result c = search needs
 
--- src/lib.rt:126:1
 returns : tie.Need-returns Inv-loop μ-loop
 returns c = search (needs, counting)
 

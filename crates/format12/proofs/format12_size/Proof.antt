@@ -5,23 +5,16 @@ use Rattle.format12.proofs.GroupsLaws.{length-groups}
 use borrow.Author.Needs.{needs}
 use Rattle.format12.proofs.format12_size.Statement.{statement}
 use Rattle.format12.proofs.format12_size.Tie as tie
-use Rattle.format12.proofs.format12_size.Reads as reads
-use Rattle.format12.proofs.format12_size.Lts as lts
-use Rattle.format12.proofs.count_groups.Reads as count-groups-reads
 
--- src/lib.rt:150:9
 count-groups-requires : tie.Need-count-groups-requires
 count-groups-requires c κs = search needs
 
--- src/lib.rt:153:21
 mul-t4 : tie.Need-mul-t4
 mul-t4 c = let a = c .before .before .before .args in omega (arith, length-groups (now (a .codes)) (now (a .glyphs)))
 
--- src/lib.rt:153:16
 add-t5 : tie.Need-add-t5
 add-t5 c = let a = c .before .before .before .args in omega (arith, length-groups (now (a .codes)) (now (a .glyphs)))
 
--- src/lib.rt:146:1
 returns : tie.Need-returns
 returns c = simp (c .count-groups .ensures)
 

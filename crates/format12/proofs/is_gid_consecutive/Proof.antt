@@ -4,27 +4,20 @@ use Rattle.format12.specs.Steps.{isConsecutive}
 use borrow.Author.Needs.{needs}
 use Rattle.format12.proofs.is_gid_consecutive.Statement.{statement}
 use Rattle.format12.proofs.is_gid_consecutive.Tie as tie
-use Rattle.format12.proofs.is_gid_consecutive.Reads as reads
-use Rattle.format12.proofs.is_gid_consecutive.Lts as lts
 
--- src/lib.rt:45:20
 add-if1 : tie.Need-add-if1
 add-if1 c = search needs
 
--- src/lib.rt:46:16
 add-result : tie.Need-add-result
 add-result c = search needs
 
--- src/lib.rt:46:43
 add-result-2 : tie.Need-add-result-2
 add-result-2 c = search needs
 
--- src/lib.rt:46:9
 returns : tie.Need-returns
 unfolding isConsecutive
 returns c = search tests
 
--- src/lib.rt:42:1
 returns-2 : tie.Need-returns-2
 unfolding isConsecutive
 returns-2 c = search tests

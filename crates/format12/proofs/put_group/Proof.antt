@@ -6,39 +6,28 @@ use Rattle.number.proofs.BigEndianLaws.{written-first, written-on}
 use borrow.Author.Needs.{needs}
 use Rattle.format12.proofs.put_group.Statement.{statement}
 use Rattle.format12.proofs.put_group.Tie as tie
-use Rattle.format12.proofs.put_group.Reads as reads
-use Rattle.format12.proofs.put_group.Lts as lts
-use Rattle.number.proofs.put_u32.Reads as put-u32-reads
 
--- src/lib.rt:161:5
 put-u32-requires : tie.Need-put-u32-requires
 put-u32-requires c κs = search needs
 
--- src/lib.rt:162:26
 add-put-u32 : tie.Need-add-put-u32
 add-put-u32 c = search needs
 
--- src/lib.rt:162:5
 put-u32-requires-2 : tie.Need-put-u32-requires-2
 put-u32-requires-2 c κs = search needs
 
--- src/lib.rt:163:26
 add-put-u32-2 : tie.Need-add-put-u32-2
 add-put-u32-2 c = search needs
 
--- src/lib.rt:163:34
 cast-put-u32 : tie.Need-cast-put-u32
 cast-put-u32 c = search needs
 
--- src/lib.rt:163:5
 put-u32-requires-3 : tie.Need-put-u32-requires-3
 put-u32-requires-3 c κs = search needs
 
--- src/lib.rt:157:1
 same-length : tie.Need-same-length
 same-length c = search needs
 
--- src/lib.rt:157:1
 returns : tie.Need-returns
 unfolding encs enc
 returns c =

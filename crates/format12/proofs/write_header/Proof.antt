@@ -7,68 +7,49 @@ use Rattle.format12.specs.Format12.{header}
 use borrow.Author.Needs.{needs}
 use Rattle.format12.proofs.write_header.Statement.{statement}
 use Rattle.format12.proofs.write_header.Tie as tie
-use Rattle.format12.proofs.write_header.Reads as reads
-use Rattle.format12.proofs.write_header.Lts as lts
-use Rattle.number.proofs.put_u16.Reads as put-u16-reads
-use Rattle.number.proofs.put_u32.Reads as put-u32-reads
 
--- src/lib.rt:205:5
 put-u16-requires : tie.Need-put-u16-requires
 put-u16-requires c κs = search needs
 
--- src/lib.rt:206:26
 add-put-u16 : tie.Need-add-put-u16
 add-put-u16 c = search needs
 
--- src/lib.rt:206:5
 put-u16-requires-2 : tie.Need-put-u16-requires-2
 put-u16-requires-2 c κs = search needs
 
--- src/lib.rt:207:26
 add-put-u32 : tie.Need-add-put-u32
 add-put-u32 c = search needs
 
--- src/lib.rt:207:40
 mul-put-u32 : tie.Need-mul-put-u32
 mul-put-u32 c = search needs
 
--- src/lib.rt:207:35
 add-put-u32-2 : tie.Need-add-put-u32-2
 add-put-u32-2 c = search needs
 
--- src/lib.rt:207:34
 cast-put-u32 : tie.Need-cast-put-u32
 cast-put-u32 c = search needs
 
--- src/lib.rt:207:5
 put-u32-requires : tie.Need-put-u32-requires
 put-u32-requires c κs = search needs
 
--- src/lib.rt:208:26
 add-put-u32-3 : tie.Need-add-put-u32-3
 add-put-u32-3 c = search needs
 
--- src/lib.rt:208:5
 put-u32-requires-2 : tie.Need-put-u32-requires-2
 put-u32-requires-2 c κs = search needs
 
--- src/lib.rt:209:26
 add-put-u32-4 : tie.Need-add-put-u32-4
 add-put-u32-4 c = search needs
 
--- src/lib.rt:209:35
 cast-put-u32-2 : tie.Need-cast-put-u32-2
 cast-put-u32-2 c = search needs
 
--- src/lib.rt:209:5
 put-u32-requires-3 : tie.Need-put-u32-requires-3
 put-u32-requires-3 c κs = search needs
 
--- src/lib.rt:201:1
 same-length : tie.Need-same-length
 same-length c = search needs
 
--- src/lib.rt:201:1
 returns : tie.Need-returns
 unfolding header encs enc
 returns c =
