@@ -1,3 +1,4 @@
 pub mod GroupsLaws
 pub mod WalkLaws
 pub mod TableLaws
+pub mod MaximalLaws

@@ -1,11 +1,11 @@
 -- A subtable's length, and how its header and its groups make it up.
-use Prim.Native.Nat.{ℕ, _+_, _*_, _≤_}
-use mathlib.Core.Path.{_≡_, refl, sym, ap, _∙_}
-use mathlib.Core.List.{List, [], _∷_, _++_}
+use Prim.Native.Nat.{ℕ, _+_, _≤_}
+use mathlib.Core.Path.{_≡_, _∙_}
+use mathlib.Core.List.{List, [], _∷_}
 use native.Mathlib.Omega.{arith}
 use lib.ListN.{length, length-append}
 use lib.Seq.{sets}
-use Rattle.laws.specs.Lists.{Pair, pairs}
+use Rattle.laws.specs.Lists.{pairs}
 use Rattle.laws.proofs.SetsLaws.{sets-append}
 use Rattle.number.specs.Columns.{encs}
 use Rattle.number.proofs.ColumnsLaws.{length-encs}

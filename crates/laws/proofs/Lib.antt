@@ -15,3 +15,4 @@ pub mod PartedLaws
 pub mod TestLaws
 pub mod PairsLaws
 pub mod SameLaws
+pub mod FirstLaws

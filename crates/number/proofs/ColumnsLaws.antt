@@ -1,15 +1,13 @@
 -- The laws of numbers one after the other: their length, their joining, and each read back.
-use Prim.Native.Nat.{ℕ, zero, suc, _+_, _*_, _^_, _<_, _≤_}
-use mathlib.Core.Path.{_≡_, refl, sym, ap, _∙_}
+use Prim.Native.Nat.{ℕ, zero, suc, _+_, _*_, _^_, _<_}
+use mathlib.Core.Path.{_≡_, refl, sym, _∙_}
 use mathlib.Core.List.{List, [], _∷_, _++_, append-assoc, append-nil}
 use native.Mathlib.Nat.{mul-zero, mul-suc, mul-le-mul-left}
 use native.Mathlib.Omega.{arith}
 use lib.ListN.{length, getD, length-append}
-use lib.Seq.{sets}
-use Rattle.laws.proofs.SetsLaws.{sets-append}
 use Rattle.number.specs.BigEndian.{be, enc}
 use Rattle.number.specs.Columns.{encs}
-use Rattle.number.proofs.BigEndianLaws.{length-enc, be-enc-fits, be-ext, be-front, be-back}
+use Rattle.number.proofs.BigEndianLaws.{length-enc, be-enc-fits, be-front, be-back}
 
 pub length-encs : (w : ℕ) (vs : List ℕ) → length (encs w vs) ≡ w * length vs
 unfolding encs
