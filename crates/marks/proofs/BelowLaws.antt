@@ -12,7 +12,7 @@ use Rattle.laws.specs.Choice.{pick, either}
 use Rattle.laws.specs.Lists.{Rising}
 use Rattle.laws.proofs.ChoiceLaws.{by-pick, by-leb}
 use Rattle.laws.proofs.RisingLaws.{rising-lt, rising-tail}
-use Rattle.marks.specs.Marks.{below, holds, Bound}
+use Rattle.marks.specs.Marks.{below, holds, Bound, Inside}
 
 -- ---- below
 
@@ -55,6 +55,15 @@ below-upto (x ∷ xs) c zero r h e =
 below-upto (x ∷ xs) c (suc i) r h e =
     let m = below-upto xs c i (rising-tail r) (omega arith) e in
     by-pick (λ k. k ≤ suc i) (ltb x c) (suc (below xs c)) (below xs c) (λ e. omega arith) (λ e. omega arith)
+
+-- a point between the bounds of a stretch lies in it
+pub inside : (ps : List ℕ) (start end low high i : ℕ) → Rising ps → Bound ps start low → Bound ps (end + 1) high → low ≤ i → i < high → Inside start end (getD ps i 0)
+inside ps start end low high i r a b h k =
+    let l : i < length ps = omega (arith, b .within) in
+    record {
+      from = by-leb (start ≤ getD ps i 0) start (getD ps i 0) (λ e. e) (λ e. absurd (omega (arith, a .is, below-past ps start i r l e)));
+      upto = by-leb (getD ps i 0 ≤ end) (getD ps i 0) end (λ e. e) (λ e. absurd (omega (arith, b .is, below-upto ps (end + 1) i r l (omega arith))));
+    }
 
 -- ---- halving
 

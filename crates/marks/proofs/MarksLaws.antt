@@ -7,14 +7,14 @@ use native.Mathlib.Nat.{not-suc-le-zero, zero-add, sub-zero}
 use native.Mathlib.Numerals.{add-one}
 use native.Mathlib.Omega.{arith}
 use lib.Dec.{ltb, leb, eqb}
-use lib.ListN.{length, getD, drop, set, replicate, length-set, drop-of-length-le}
-use lib.Seq.{sets, sets-eq, drop-cons}
+use lib.ListN.{length, getD, drop, set, replicate, length-set, length-replicate, drop-of-length-le}
+use lib.Seq.{sets, sets-eq, length-sets, drop-cons, set-set, set-comm}
 use borrow.Author.Tests.{lt-ltb, le-ltb, le-leb, lt-leb, eq-eqb, ne-eqb}
 use Rattle.laws.specs.Choice.{pick, both}
 use Rattle.laws.specs.Lists.{Rising, keep}
 use Rattle.laws.proofs.ChoiceLaws.{by-leb}
 use Rattle.laws.proofs.RisingLaws.{rising-tail}
-use Rattle.marks.specs.Marks.{between, below, flagOf, flagged, painted, kept, Bound, Flags}
+use Rattle.marks.specs.Marks.{between, below, flagOf, flagged, painted, kept, Bound, Flags, Cleared}
 use Rattle.marks.proofs.BelowLaws.{below-tail}
 
 -- ---- painted, store by store
@@ -62,18 +62,23 @@ painted-stores v a e (x ∷ xs) (f ∷ fs) r h =
 
 -- the flags up to i are painted: what is left, from here, gives the whole
 pub record Painting (v : ℕ → Bool) (ps fs₀ fs : List ℕ) (low high i : ℕ) : Type 0 where
+  pub from : low ≤ i
   pub left : stores v ps (high - i) i fs ≡ stores v ps (high - low) low fs₀
   pub same : length fs ≡ length fs₀
 
 pub painting-start : (v : ℕ → Bool) (ps fs₀ : List ℕ) (low high : ℕ) → Painting v ps fs₀ fs₀ low high low
-painting-start v ps fs₀ low high = record { left = refl; same = refl }
+painting-start v ps fs₀ low high = record { from = omega arith; left = refl; same = refl }
 
 module _ {v : ℕ → Bool} {ps fs₀ fs : List ℕ} {low high i : ℕ} (p : Painting v ps fs₀ fs low high i) where
   pub painting-on : i < high → (f : ℕ) → f ≡ flagOf (v (getD ps i 0)) → Painting v ps fs₀ (set fs i f) low high (i + 1)
   unfolding stores
   painting-on h f e =
       let m : high - i ≡ suc (high - (i + 1)) = omega arith in
-      record { left = rw (add-one i, e) (rw (m, add-one i) at (p .left)); same = length-set fs i f ∙ p .same }
+      record { from = omega (arith, p .from); left = rw (add-one i, e) (rw (m, add-one i) at (p .left)); same = length-set fs i f ∙ p .same }
+
+  -- the same with the code's own answer b
+  pub painting-says : i < high → (f : ℕ) (b : Bool) → b ≡ v (getD ps i 0) → f ≡ flagOf b → Painting v ps fs₀ (set fs i f) low high (i + 1)
+  painting-says h f b q e = painting-on h f (rw q at e)
 
   pub painting-done : (a e : ℕ) → high ≤ i → Bound ps a low → Bound ps (e + 1) high → Flags ps fs₀ → fs ≡ painted (between a e) v ps fs₀
   unfolding stores
@@ -81,7 +86,7 @@ module _ {v : ℕ → Bool} {ps fs₀ fs : List ℕ} {low high i : ℕ} (p : Pai
       let m : high - i ≡ 0 = omega arith in
       rw m at (p .left) ∙ rw (b .is, d .is) (painted-stores v a e ps fs₀ (k .rising) (k .beside))
 
-pub ruleset painting = (painting-start, painting-on, painting-done)
+pub ruleset painting = (painting-start, painting-on, painting-says, painting-done)
 
 -- ---- flags that say which points pass
 
@@ -114,6 +119,12 @@ sets-front fs vs h =
     let z : 0 + length vs ≡ length vs = omega arith in
     sets-eq vs fs 0 (rw z h) ∙ rw z
 
+-- a store before a run of stores, made after it
+set-sets : (l : List ℕ) (i j : ℕ) (vs : List ℕ) (w : ℕ) → i < j → set (sets l j vs) i w ≡ sets (set l i w) j vs
+set-sets l i j [] w h = refl
+set-sets l i j (v ∷ vs) w h =
+    rw (set-sets (set l j v) i (suc j) vs w (omega arith), set-comm l j i v w (λ e. omega arith))
+
 -- painting over flags that say q
 pub painted-flagged : (h v q : ℕ → Bool) (ps fs : List ℕ) → length ps ≤ length fs
     → painted h v ps (sets fs 0 (flagged q ps)) ≡ sets fs 0 (flagged (λ c. pick (h c) (v c) (q c)) ps)
@@ -122,7 +133,38 @@ painted-flagged h v q ps fs l =
     rw (sets-front fs (flagged q ps) (rw (length-flagged q ps) l), sets-front fs (flagged w ps) (rw (length-flagged w ps) l), length-flagged q ps, length-flagged w ps)
     (painted-front h v q ps (drop (length ps) fs))
 
+-- the first flags say q, and the others are as they were
+pub record Saying (q : ℕ → Bool) (ps fs₀ fs : List ℕ) : Type 0 where
+  pub is : fs ≡ sets fs₀ 0 (flagged q ps)
+  pub same : length fs ≡ length fs₀
+
+pub saying-none : {ps fs : List ℕ} → Cleared (length ps) fs → Saying (λ c. false) ps fs fs
+saying-none {ps} e = record { is = e .is ∙ rw (flagged-none ps); same = refl }
+
+pub saying-on : {q : ℕ → Bool} {ps fs₀ fs : List ℕ} (h v p : ℕ → Bool) {fs′ : List ℕ} → Saying q ps fs₀ fs → Flags ps fs₀ → fs′ ≡ painted h v ps fs
+    → ((c : ℕ) → pick (h c) (v c) (q c) ≡ p c) → Saying p ps fs₀ fs′
+saying-on {q} {ps} {fs₀} {fs} h v p {fs′} s k e w =
+    let all : fs′ ≡ sets fs₀ 0 (flagged p ps) =
+    e ∙ rw (s .is) (painted-flagged h v q ps fs₀ (k .beside) ∙ rw (flagged-ext (λ c. pick (h c) (v c) (q c)) p w ps)) in
+    record { is = all; same = rw all (length-sets fs₀ 0 (flagged p ps)) }
+
 -- ---- cleared flags
+
+-- a run of stores over another of the same length
+sets-over : (l : List ℕ) (i : ℕ) (vs ws : List ℕ) → length vs ≡ length ws → sets (sets l i vs) i ws ≡ sets l i ws
+sets-over l i [] [] h = refl
+sets-over l i [] (w ∷ ws) h = absurd (omega arith)
+sets-over l i (v ∷ vs) [] h = absurd (omega arith)
+sets-over l i (v ∷ vs) (w ∷ ws) h =
+    rw (set-sets (set l i v) i (suc i) vs w (omega arith), set-set l i v w) (sets-over (set l i w) (suc i) vs ws (omega arith))
+
+pub cleared : (n : ℕ) (fs₀ fs : List ℕ) → fs ≡ sets fs₀ 0 (replicate n 0) → Cleared n fs
+cleared n fs₀ fs e = record { is = rw e (sym (sets-over fs₀ 0 (replicate n 0) (replicate n 0) refl)) }
+
+-- what is said after clearing is said at once
+pub cleared-flagged : (p : ℕ → Bool) (ps fs₀ fs fs′ : List ℕ) → fs ≡ sets fs₀ 0 (replicate (length ps) 0) → fs′ ≡ sets fs 0 (flagged p ps) → fs′ ≡ sets fs₀ 0 (flagged p ps)
+cleared-flagged p ps fs₀ fs fs′ e d =
+    d ∙ rw e (sets-over fs₀ 0 (replicate (length ps) 0) (flagged p ps) (rw (length-flagged p ps) (length-replicate {A = ℕ} (length ps) 0)))
 
 pub record Clearing (fs₀ fs : List ℕ) (n i : ℕ) : Type 0 where
   pub within : i ≤ n

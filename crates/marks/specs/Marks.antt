@@ -4,13 +4,18 @@ use mathlib.Core.Path.{_≡_}
 use mathlib.Core.List.{List, [], _∷_}
 use mathlib.Core.Bool.{Bool, true, false}
 use lib.Dec.{ltb, leb, eqb}
-use lib.ListN.{length}
+use lib.ListN.{length, replicate}
+use lib.Seq.{sets}
 use Rattle.laws.specs.Choice.{pick, both, either}
 use Rattle.laws.specs.Lists.{Rising}
 
 -- whether c is one of start..end; none is where start exceeds end
 abbrev pub between : ℕ → ℕ → ℕ → Bool
 between start end c = both (leb start c) (leb c end)
+
+pub record Inside (start end c : ℕ) : Type 0 where
+  pub from : start ≤ c
+  pub upto : c ≤ end
 
 -- how many of the numbers are below c
 unfoldable pub below : List ℕ → ℕ → ℕ
@@ -56,6 +61,10 @@ pub record Bound (ps : List ℕ) (c r : ℕ) : Type 0 where
 pub record Flags (ps fs : List ℕ) : Type 0 where
   pub rising : Rising ps
   pub beside : length ps ≤ length fs
+
+-- the first n flags are 0
+pub record Cleared (n : ℕ) (fs : List ℕ) : Type 0 where
+  pub is : fs ≡ sets fs 0 (replicate n 0)
 
 -- a flag and a place to copy to for each value
 pub record Places (fs vs out : List ℕ) : Type 0 where

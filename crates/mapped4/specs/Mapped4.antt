@@ -1,0 +1,74 @@
+-- Which code points a format 4 subtable maps (docs/01-rules.md, "Which code points a subtable maps").
+-- The subtable stands at `at` in xs, has s segments and is `len` bytes long.
+use Prim.Native.Nat.{ℕ, zero, suc, _+_, _*_, _-_, _/_, _%_, _<_, _≤_}
+use mathlib.Core.Path.{_≡_}
+use mathlib.Core.List.{List}
+use mathlib.Core.Bool.{Bool, true, false}
+use lib.Dec.{eqb, ltb}
+use lib.ListN.{length}
+use Rattle.laws.specs.Choice.{pick, ifLt, ifEq}
+use Rattle.laws.specs.Search.{first}
+use Rattle.number.specs.BigEndian.{be}
+use Rattle.marks.specs.Marks.{between}
+use Rattle.mapped4.specs.declared.Segment.{Segment}
+
+-- segment i: endCode, startCode, idDelta and idRangeOffset stand in four rows, a pad behind the first
+abbrev pub segment4 : List ℕ → ℕ → ℕ → ℕ → Segment
+segment4 xs at s i =
+    record {
+      start = be 2 xs (at + 16 + 2 * s + 2 * i);
+      end = be 2 xs (at + 14 + 2 * i);
+      delta = be 2 xs (at + 16 + 4 * s + 2 * i);
+      offset = be 2 xs (at + 16 + 6 * s + 2 * i);
+    }
+
+-- the walk stops before a start of 0xFFFF
+abbrev pub stops4 : List ℕ → ℕ → ℕ → ℕ → Bool
+stops4 xs at s i = eqb (segment4 xs at s i .start) 0xFFFF
+
+abbrev pub holds4 : Segment → ℕ → Bool
+holds4 g = between (g .start) (g .end)
+
+-- the glyph array is the whole entries up to the length
+abbrev pub entries4 : ℕ → ℕ → ℕ
+entries4 s len = (len - (16 + 8 * s)) / 2
+
+-- the entry `away` behind the one that stands for the segment's start, whose index is place - s: unmapped if the start's index is negative,
+-- this one's is past the array, or the entry is 0
+unfoldable pub entryMaps4 : List ℕ → ℕ → ℕ → ℕ → ℕ → ℕ → Bool
+entryMaps4 xs at s len place away =
+    let index = place + away - s in
+    ifLt place s false (ifLt index (entries4 s len) (ltb 0 (be 2 xs (at + 16 + 8 * s + 2 * index))) false)
+
+-- what segment i says of a c that it holds: with offset 0 the sum of c and delta counts, else the entry at offset/2 + (c - start) + i - s
+unfoldable pub says4 : List ℕ → ℕ → ℕ → ℕ → ℕ → Segment → ℕ → Bool
+says4 xs at s len i g c =
+    ifEq (g .offset) 0 (ltb 0 ((c + g .delta) % 65536)) (entryMaps4 xs at s len (g .offset / 2 + i) (c - g .start))
+
+-- the last of the first n places that is a hit decides; where none is, the answer is no
+unfoldable pub lastSays : (ℕ → Bool) → (ℕ → Bool) → ℕ → Bool
+lastSays hit says zero = false
+lastSays hit says (suc n) = let r = lastSays hit says n in pick (hit n) (says n) r
+
+-- what the first n segments say of c
+abbrev pub among4 : List ℕ → ℕ → ℕ → ℕ → ℕ → ℕ → Bool
+among4 xs at s len n c =
+    lastSays (λ i. holds4 (segment4 xs at s i) c) (λ i. says4 xs at s len i (segment4 xs at s i) c) n
+
+-- the last walked segment that holds c decides
+unfoldable pub maps4 : List ℕ → ℕ → ℕ → ℕ → ℕ → Bool
+maps4 xs at s len c = among4 xs at s len (first (stops4 xs at s) s 0) c
+
+-- the subtable's room in the source
+pub record Room4 (xs : List ℕ) (at s len : ℕ) : Type 0 where
+  pub room : 16 + 8 * s ≤ len
+  pub fits : at + len ≤ length xs
+  pub small : len < 65536
+
+-- what is read of segment i, with the bounds of its numbers
+pub record Read4 (xs : List ℕ) (at s i : ℕ) (g : Segment) : Type 0 where
+  pub is : g ≡ segment4 xs at s i
+  pub start-below : g .start < 65536
+  pub end-below : g .end < 65536
+  pub delta-below : g .delta < 65536
+  pub offset-below : g .offset < 65536

@@ -1,0 +1,190 @@
+// Which code points a format 4 subtable maps: asked for one, and for all of a rising list at once.
+ghost use mathlib.Core.Path.{_≡_};
+ghost use Prim.Native.Nat.{_+_, _*_, _≤_, _<_};
+ghost use lib.ListN.{length};
+ghost use lib.Seq.{sets};
+ghost use Rattle.laws.specs.Choice.{pick};
+ghost use Rattle.marks.specs.Marks.{flagged, flagOf, painted, Flags, Inside, Cleared};
+ghost use Rattle.mapped4.specs.Mapped4.{Room4, Read4, entryMaps4, says4, holds4, maps4};
+
+pub struct Segment {
+    pub start: u32,
+    pub end: u32,
+    pub delta: u32,
+    pub offset: u32,
+}
+
+fn segment_at(s: &[u8], at: usize, segs: usize, i: usize) -> Segment
+    requires { ⌜ at + 16 + 8 * segs ≤ length (now s) ⌝ }
+    requires { ⌜ i < segs ⌝ }
+    ensures { λ r. ⌜ Read4 (now (s .entry)) at segs i r ⌝ }
+{
+    let start = number::u16_at(s, at + 16 + 2 * segs + 2 * i);
+    let end = number::u16_at(s, at + 14 + 2 * i);
+    let delta = number::u16_at(s, at + 16 + 4 * segs + 2 * i);
+    let offset = number::u16_at(s, at + 16 + 6 * segs + 2 * i);
+    Segment {
+        start,
+        end,
+        delta,
+        offset,
+    }
+}
+
+fn entry_maps(s: &[u8], at: usize, segs: usize, len: usize, place: usize, away: usize) -> bool
+    requires { ⌜ Room4 (now s) at segs len ⌝ }
+    requires { ⌜ (place < 131072) × (away < 65536) ⌝ }
+    ensures { λ r. ⌜ r ≡ entryMaps4 (now (s .entry)) at segs len place away ⌝ }
+{
+    if place < segs {
+        return false;
+    }
+    let index = place + away - segs;
+    if index < (len - (16 + 8 * segs)) / 2 {
+        return 0 < number::u16_at(s, at + 16 + 8 * segs + 2 * index);
+    }
+    false
+}
+
+// What segment i says of a code point that it holds.
+fn segment_maps(
+    s: &[u8],
+    at: usize,
+    segs: usize,
+    len: usize,
+    i: usize,
+    segment: Segment,
+    c: u32,
+) -> bool
+    requires { ⌜ Room4 (now s) at segs len ⌝ }
+    requires { ⌜ Read4 (now s) at segs i segment ⌝ }
+    requires { ⌜ i < segs ⌝ }
+    requires { ⌜ Inside (segment .start) (segment .end) c ⌝ }
+    ensures { λ r. ⌜ r ≡ says4 (now (s .entry)) at segs len i segment c ⌝ }
+{
+    if segment.offset == 0 {
+        return 0 < (c + segment.delta) % 65536;
+    }
+    entry_maps(
+        s,
+        at,
+        segs,
+        len,
+        (segment.offset / 2) as usize + i,
+        (c - segment.start) as usize,
+    )
+}
+
+// What is said of c up to segment i, where `before` is what was said before it.
+fn decide(
+    s: &[u8],
+    at: usize,
+    segs: usize,
+    len: usize,
+    i: usize,
+    segment: Segment,
+    c: u32,
+    before: bool,
+) -> bool
+    requires { ⌜ Room4 (now s) at segs len ⌝ }
+    requires { ⌜ Read4 (now s) at segs i segment ⌝ }
+    requires { ⌜ i < segs ⌝ }
+    ensures { λ r. ⌜ r ≡ pick (holds4 segment c) (says4 (now (s .entry)) at segs len i segment c) before ⌝ }
+{
+    if c < segment.start {
+        return before;
+    }
+    if segment.end < c {
+        return before;
+    }
+    segment_maps(s, at, segs, len, i, segment, c)
+}
+
+// Whether the subtable maps c.
+pub fn is_mapped4(s: &[u8], at: usize, segs: usize, len: usize, c: u32) -> bool
+    requires { ⌜ Room4 (now s) at segs len ⌝ }
+    ensures { λ r. ⌜ r ≡ maps4 (now (s .entry)) at segs len c ⌝ }
+{
+    let mut mapped = false;
+    let mut i = 0;
+    while i < segs {
+        let segment = segment_at(s, at, segs, i);
+        if segment.start == 0xFFFF {
+            return mapped;
+        }
+        mapped = decide(s, at, segs, len, i, segment, c, mapped);
+        i += 1;
+    }
+    mapped
+}
+
+fn flag_of(mapped: bool) -> u8
+    ensures { λ r. ⌜ r ≡ flagOf mapped ⌝ }
+{
+    if mapped {
+        return 1;
+    }
+    0
+}
+
+// Segment i's word on the points that it holds, written over what earlier segments said.
+fn mark_segment(
+    s: &[u8],
+    at: usize,
+    segs: usize,
+    len: usize,
+    i: usize,
+    segment: Segment,
+    points: &[u32],
+    flags: &mut [u8],
+)
+    requires { ⌜ Room4 (now s) at segs len ⌝ }
+    requires { ⌜ Read4 (now s) at segs i segment ⌝ }
+    requires { ⌜ i < segs ⌝ }
+    requires { ⌜ Flags (now points) (now flags) ⌝ }
+    ensures { λ _. ⌜ now (flags .exit) ≡ painted (holds4 segment) (says4 (now (s .entry)) at segs len i segment) (now (points .entry)) (now (flags .entry)) ⌝ }
+{
+    let low = marks::lower_bound(points, segment.start);
+    let high = marks::upper_bound(points, segment.end);
+    let mut j = low;
+    while j < high {
+        let c = points[j];
+        flags[j] = flag_of(segment_maps(s, at, segs, len, i, segment, c));
+        j += 1;
+    }
+}
+
+// The walk over the segments, from flags that are clear.
+fn mark_segments(s: &[u8], at: usize, segs: usize, len: usize, points: &[u32], flags: &mut [u8])
+    requires { ⌜ Room4 (now s) at segs len ⌝ }
+    requires { ⌜ Flags (now points) (now flags) ⌝ }
+    requires { ⌜ Cleared (length (now points)) (now flags) ⌝ }
+    ensures { λ _. ⌜ now (flags .exit) ≡ sets (now (flags .entry)) 0 (flagged (maps4 (now (s .entry)) at segs len) (now (points .entry))) ⌝ }
+{
+    let mut i = 0;
+    while i < segs {
+        let segment = segment_at(s, at, segs, i);
+        if segment.start == 0xFFFF {
+            return;
+        }
+        mark_segment(s, at, segs, len, i, segment, points, flags);
+        i += 1;
+    }
+}
+
+// Sets the flag of each point to whether the subtable maps it.
+pub fn collect_unicodes4(
+    s: &[u8],
+    at: usize,
+    segs: usize,
+    len: usize,
+    points: &[u32],
+    flags: &mut [u8],
+)
+    requires { ⌜ Room4 (now s) at segs len ⌝ }
+    requires { ⌜ Flags (now points) (now flags) ⌝ }
+    ensures { λ _. ⌜ now (flags .exit) ≡ sets (now (flags .entry)) 0 (flagged (maps4 (now (s .entry)) at segs len) (now (points .entry))) ⌝ }
+{
+    marks::clear(flags, points.len());
+    mark_segments(s, at, segs, len, points, flags);
+}
