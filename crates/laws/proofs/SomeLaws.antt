@@ -1,0 +1,39 @@
+-- Whether some place passes, asked one place further; and a choice whose two ways agree.
+use Prim.Native.Nat.{ℕ, zero, suc, _+_}
+use mathlib.Core.Path.{_≡_, refl, sym, _∙_}
+use mathlib.Core.Bool.{Bool, true, false}
+use native.Mathlib.Nat.{add-zero}
+use native.Mathlib.Omega.{arith}
+use lib.Dec.{eqb}
+use Rattle.laws.specs.Choice.{pick, either, ifEq}
+use Rattle.laws.specs.Search.{some}
+
+either-pick : (a b r : Bool) → either a (pick b true r) ≡ pick b true (either a r)
+either-pick true true r = refl
+either-pick true false r = refl
+either-pick false b r = refl
+
+some-from : (p : ℕ → Bool) (n i : ℕ) → some p (suc n) i ≡ pick (p (i + n)) true (some p n i)
+unfolding some
+some-from p zero i = rw (add-zero i) (go (p i))
+  where
+    go : (b : Bool) → either b false ≡ pick b true false
+    go true = refl
+    go false = refl
+some-from p (suc n) i =
+    let e : i + suc n ≡ i + 1 + n = omega arith in
+    rw e (rw (some-from p n (i + 1)) (either-pick (p i) (p (i + 1 + n)) (some p n (i + 1))))
+
+-- the last of n + 1 places, or one before it
+pub some-snoc : (p : ℕ → Bool) (n : ℕ) → some p (suc n) 0 ≡ pick (p n) true (some p n 0)
+some-snoc p n =
+    let e : 0 + n ≡ n = omega arith in
+    rw e at (some-from p n 0)
+
+pub each-eq : {A : Type 0} {z : A} (a b : ℕ) (x y : A) → z ≡ x → z ≡ y → z ≡ ifEq a b x y
+unfolding ifEq
+each-eq {A} {z} a b x y e d = go (eqb a b)
+  where
+    go : (t : Bool) → z ≡ pick t x y
+    go true = e
+    go false = d
