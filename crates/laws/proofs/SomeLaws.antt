@@ -1,13 +1,36 @@
--- What it says of each place that none passes.
-use Prim.Native.Nat.{ℕ, zero, suc, _+_, _-_, _<_, _≤_}
+-- Whether some place passes, asked one place further; what it says of each place that none does; and a choice whose two ways agree.
+use Prim.Native.Nat.{ℕ, zero, suc, _+_, _<_, _≤_}
 use mathlib.Core.Path.{_≡_, refl, sym, ap, _∙_}
+use mathlib.Core.Logic.{⊎-elim}
 use mathlib.Core.Bool.{Bool, true, false}
-use mathlib.Core.Logic.{_⊎_, inl, inr, ⊎-elim}
-use native.Mathlib.Nat.{eq-or-lt-of-le}
+use native.Mathlib.Nat.{add-zero, eq-or-lt-of-le}
 use native.Mathlib.Omega.{arith}
-use Rattle.laws.specs.Choice.{either}
+use lib.Dec.{eqb}
+use Rattle.laws.specs.Choice.{pick, either, ifEq}
 use Rattle.laws.specs.Search.{some}
 use Rattle.laws.proofs.ChoiceLaws.{false-true}
+
+either-pick : (a b r : Bool) → either a (pick b true r) ≡ pick b true (either a r)
+either-pick true true r = refl
+either-pick true false r = refl
+either-pick false b r = refl
+
+some-from : (p : ℕ → Bool) (n i : ℕ) → some p (suc n) i ≡ pick (p (i + n)) true (some p n i)
+unfolding some
+some-from p zero i = rw (add-zero i) (go (p i))
+  where
+    go : (b : Bool) → either b false ≡ pick b true false
+    go true = refl
+    go false = refl
+some-from p (suc n) i =
+    let e : i + suc n ≡ i + 1 + n = omega arith in
+    rw e (rw (some-from p n (i + 1)) (either-pick (p i) (p (i + 1 + n)) (some p n (i + 1))))
+
+-- the last of n + 1 places, or one before it
+pub some-snoc : (p : ℕ → Bool) (n : ℕ) → some p (suc n) 0 ≡ pick (p n) true (some p n 0)
+some-snoc p n =
+    let e : 0 + n ≡ n = omega arith in
+    rw e at (some-from p n 0)
 
 pub either-false : (a b : Bool) → either a b ≡ false → (a ≡ false) × (b ≡ false)
 either-false true b e = absurd (false-true (sym e))
@@ -19,3 +42,11 @@ some-false p zero i e k a b = absurd (omega arith)
 some-false p (suc n) i e k a b =
     let q = either-false (p i) (some p n (i + 1)) e in
     ⊎-elim (λ (s : i ≡ k). ap p (sym s) ∙ q .0) (λ (s : i < k). some-false p n (i + 1) (q .1) k (omega arith) (omega arith)) (eq-or-lt-of-le a)
+
+pub each-eq : {A : Type 0} {z : A} (a b : ℕ) (x y : A) → z ≡ x → z ≡ y → z ≡ ifEq a b x y
+unfolding ifEq
+each-eq {A} {z} a b x y e d = go (eqb a b)
+  where
+    go : (t : Bool) → z ≡ pick t x y
+    go true = e
+    go false = d
