@@ -1,0 +1,80 @@
+-- What the kind of a subtable says of the points it maps, and the listed pairs as two columns.
+use Prim.Native.Nat.{ℕ, suc, _+_, _*_, _<_, _≤_}
+use mathlib.Core.Path.{_≡_, refl, sym, ap, _∙_}
+use mathlib.Core.List.{List, [], _∷_, map}
+use mathlib.Core.Bool.{Bool, true, false}
+use native.Mathlib.Omega.{arith}
+use lib.ListN.{length, replicate}
+use lib.Seq.{sets}
+use Rattle.laws.specs.Choice.{pick}
+use Rattle.laws.specs.Lists.{Pair, pairs, keep}
+use Rattle.laws.specs.Select.{select}
+use Rattle.laws.proofs.ChoiceLaws.{by-pick}
+use Rattle.number.specs.BigEndian.{Bytes}
+use Rattle.source.specs.declared.Kind.{Kind}
+use Rattle.source.specs.declared.Kind.the-variants.{Format4, Format12, Format14, Unreadable}
+use Rattle.source.specs.Kind.{kindAt}
+use Rattle.source.proofs.KindLaws.{room4, room12}
+use Rattle.marks.specs.Marks.{flagged, kept, Flags}
+use Rattle.marks.proofs.MarksLaws.{flagged-none, kept-sets}
+use Rattle.mapped4.specs.Mapped4.{maps4, Room4}
+use Rattle.mapped12.specs.Mapped12.{maps12, Room12}
+use Rattle.listing.specs.Listing.{mapsAs, Asked, Columns}
+
+-- ---- by kind
+
+module _ (kind : Kind) (xs : List ℕ) (at n : ℕ) (ps fs : List ℕ) (a : Asked kind xs at n ps fs) where
+  pub asked4 : {l s len : ℕ} → Bytes xs → kind ≡ Format4 l s len → Room4 xs at s len × Flags ps fs
+  asked4 b e =
+      let r = room4 xs at b (sym (a .found) ∙ e) in
+      (record { room = r .room; fits = r .fits; small = r .small }, a .flagged)
+
+  pub asked12 : {l g len : ℕ} → kind ≡ Format12 l g len → Room12 xs at g n × Flags ps fs
+  asked12 e =
+      let r = room12 xs at (sym (a .found) ∙ e) in
+      (record { fits = omega (arith, r .room, r .fits); glyphs = a .glyphs }, a .flagged)
+
+module _ (kind : Kind) (xs : List ℕ) (at n : ℕ) (ps fs gs : List ℕ) where
+  pub flags4 : (l s len : ℕ) → kind ≡ Format4 l s len → gs ≡ sets fs 0 (flagged (maps4 xs at s len) ps) → gs ≡ sets fs 0 (flagged (mapsAs kind xs at n) ps)
+  flags4 l s len e h = rw e h
+
+  pub flags12 : (l g len : ℕ) → kind ≡ Format12 l g len → gs ≡ sets fs 0 (flagged (maps12 xs at g n) ps) → gs ≡ sets fs 0 (flagged (mapsAs kind xs at n) ps)
+  flags12 l g len e h = rw e h
+
+  pub flags14 : (m len : ℕ) → kind ≡ Format14 m len → gs ≡ sets fs 0 (replicate (length ps) 0) → gs ≡ sets fs 0 (flagged (mapsAs kind xs at n) ps)
+  flags14 m len e h = rw (e, flagged-none ps) h
+
+  pub flags-none : kind ≡ Unreadable → gs ≡ sets fs 0 (replicate (length ps) 0) → gs ≡ sets fs 0 (flagged (mapsAs kind xs at n) ps)
+  flags-none e h = rw (e, flagged-none ps) h
+
+pub ruleset by-kind = (flags4, flags12, flags14, flags-none)
+
+-- ---- two columns
+
+-- the pairs whose code points pass are those of the columns that are kept
+pub keep-pairs : (p : ℕ → Bool) (cs gs : List ℕ) → length cs ≡ length gs → pairs (keep p cs cs) (keep p cs gs) ≡ select (λ q. p (q .0)) (pairs cs gs)
+unfolding select
+keep-pairs p [] gs e = refl
+keep-pairs p (c ∷ cs) [] e = absurd (omega arith)
+keep-pairs p (c ∷ cs) (g ∷ gs) e = go (p c) (keep p cs cs) (keep p cs gs) (keep-pairs p cs gs (omega arith))
+  where
+    go : (t : Bool) (k l : List ℕ) {r : List Pair} → pairs k l ≡ r → pairs (pick t (c ∷ k) k) (pick t (g ∷ l) l) ≡ pick t ((c, g) ∷ r) r
+    go true k l h = ap (λ (q : List Pair). (c, g) ∷ q) h
+    go false k l h = h
+
+-- what is copied by the flags that say what the subtable maps; fs are the flags before, ms the flags then
+module _ (kind : Kind) (xs : List ℕ) (at n : ℕ) (cs gs fs ms tocs togs : List ℕ) where
+  abbrev picked : List ℕ → List ℕ
+  picked vs = keep (mapsAs kind xs at n) cs vs
+
+  module _ (a : Asked kind xs at n cs fs) (q : ms ≡ sets fs 0 (flagged (mapsAs kind xs at n) cs)) (c : Columns cs gs tocs togs) where
+    pub codes-count : (r : ℕ) → r ≡ length (kept ms cs) → r ≡ length (picked cs)
+    codes-count r h = h ∙ ap length (ap (λ (l : List ℕ). kept l cs) q ∙ kept-sets (mapsAs kind xs at n) cs cs fs (a .flagged .beside) (omega arith))
+
+    pub codes-copied : (out : List ℕ) → out ≡ sets tocs 0 (kept ms cs) → out ≡ sets tocs 0 (picked cs)
+    codes-copied out h = h ∙ ap (sets tocs 0) (ap (λ (l : List ℕ). kept l cs) q ∙ kept-sets (mapsAs kind xs at n) cs cs fs (a .flagged .beside) (omega arith))
+
+    pub glyphs-copied : (out : List ℕ) → out ≡ sets togs 0 (kept ms gs) → out ≡ sets togs 0 (picked gs)
+    glyphs-copied out h = h ∙ ap (sets togs 0) (ap (λ (l : List ℕ). kept l gs) q ∙ kept-sets (mapsAs kind xs at n) cs gs fs (a .flagged .beside) (omega (arith, c .even)))
+
+pub ruleset copied = (codes-count, codes-copied, glyphs-copied)

@@ -1,0 +1,16 @@
+-- A job: what is lent but the output (docs/01-rules.md, "What is lent").
+use Prim.Native.Nat.{ℕ}
+use mathlib.Core.List.{List}
+use lib.ListN.{length}
+
+pub record Job : Type 0 where
+  pub source : List ℕ
+  pub codes : List ℕ
+  pub glyphs : List ℕ
+  pub kept : List ℕ
+  pub newGlyphs : List ℕ
+  pub requested : List ℕ
+
+-- the font's glyph count n is the map's length
+abbrev pub glyphCount : Job → ℕ
+glyphCount j = length (j .newGlyphs)

@@ -1,0 +1,45 @@
+-- Which code points a record's subtable maps, and the listed pairs among them (docs/01-rules.md, "Which code points a subtable maps").
+use Prim.Native.Nat.{ℕ, _<_, _≤_}
+use lib.ListN.{length}
+use mathlib.Core.Path.{_≡_}
+use mathlib.Core.List.{List}
+use mathlib.Core.Bool.{Bool, false}
+use Rattle.laws.specs.Lists.{Pair, pairs}
+use Rattle.laws.specs.Select.{select}
+use Rattle.source.specs.declared.Kind.{Kind}
+use Rattle.source.specs.declared.Kind.the-variants.{Format4, Format12, Format14, Unreadable}
+use Rattle.source.specs.Header.{offsetOf}
+use Rattle.source.specs.Kind.{kindAt}
+use Rattle.records.specs.Records.{leadsTo}
+use Rattle.marks.specs.Marks.{Flags}
+use Rattle.mapped4.specs.Mapped4.{maps4}
+use Rattle.mapped12.specs.Mapped12.{maps12}
+use Rattle.listing.specs.Job.{Job, glyphCount}
+
+-- the subtable of a kind that stands at `at`, in a font of n glyphs
+abbrev pub mapsAs : Kind → List ℕ → ℕ → ℕ → ℕ → Bool
+mapsAs (Format4 language segments len) xs at n c = maps4 xs at segments len c
+mapsAs (Format12 language groups len) xs at n c = maps12 xs at groups n c
+mapsAs (Format14 selectors len) xs at n c = false
+mapsAs Unreadable xs at n c = false
+
+unfoldable pub maps : Job → ℕ → ℕ → Bool
+maps j k c = mapsAs (leadsTo (j .source) k) (j .source) (offsetOf (j .source) k) (glyphCount j) c
+
+-- the listed pairs that the subtable of record k maps
+unfoldable pub listed : Job → ℕ → List Pair
+listed j k = select (λ p. maps j k (p .0)) (pairs (j .codes) (j .glyphs))
+
+-- ---- what the functions ask for and leave
+
+-- what stands at `at` is of that kind, the points rise, each has a flag, and the glyph count is that of a font
+pub record Asked (kind : Kind) (xs : List ℕ) (at n : ℕ) (points flags : List ℕ) : Type 0 where
+  pub found : kind ≡ kindAt xs at
+  pub glyphs : n < 65536
+  pub flagged : Flags points flags
+
+-- two columns of pairs, and room to copy them to
+pub record Columns (cs gs tocs togs : List ℕ) : Type 0 where
+  pub even : length cs ≡ length gs
+  pub codes : length cs ≤ length tocs
+  pub glyphs : length gs ≤ length togs

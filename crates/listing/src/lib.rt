@@ -1,0 +1,55 @@
+// Which of a rising list of points the subtable at an offset maps, and the listed pairs among them.
+use source::Kind;
+ghost use mathlib.Core.Path.{_≡_};
+ghost use lib.ListN.{length};
+ghost use lib.Seq.{sets};
+ghost use Rattle.laws.specs.Lists.{keep};
+ghost use Rattle.marks.specs.Marks.{flagged};
+ghost use Rattle.listing.specs.Listing.{mapsAs, Asked, Columns};
+
+// Sets the flag of each point to whether the subtable of that kind maps it.
+pub fn collect_unicodes(s: &[u8], at: usize, kind: Kind, n: u32, points: &[u32], flags: &mut [u8])
+    requires { ⌜ Asked kind (now s) at n (now points) (now flags) ⌝ }
+    ensures { λ _. ⌜ now (flags .exit) ≡ sets (now (flags .entry)) 0 (flagged (mapsAs kind (now (s .entry)) at n) (now (points .entry))) ⌝ }
+{
+    match kind {
+        Kind::Format4 {
+            language: _,
+            segments,
+            length,
+        } => mapped4::collect_unicodes4(s, at, segments, length, points, flags),
+        Kind::Format12 {
+            language: _,
+            groups,
+            length: _,
+        } => mapped12::collect_unicodes12(s, at, groups, n, points, flags),
+        Kind::Format14 {
+            records: _,
+            length: _,
+        } => marks::clear(flags, points.len()),
+        Kind::Unreadable => marks::clear(flags, points.len()),
+    }
+}
+
+// Copies the pairs whose code points the subtable maps to the front of the lent columns; how many.
+pub fn list_pairs(
+    s: &[u8],
+    at: usize,
+    kind: Kind,
+    n: u32,
+    codes: &[u32],
+    glyphs: &[u16],
+    flags: &mut [u8],
+    tocodes: &mut [u32],
+    toglyphs: &mut [u16],
+) -> usize
+    requires { ⌜ Asked kind (now s) at n (now codes) (now flags) ⌝ }
+    requires { ⌜ Columns (now codes) (now glyphs) (now tocodes) (now toglyphs) ⌝ }
+    ensures { λ r. ⌜ r ≡ length (keep (mapsAs kind (now (s .entry)) at n) (now (codes .entry)) (now (codes .entry))) ⌝ }
+    ensures { λ _. ⌜ now (tocodes .exit) ≡ sets (now (tocodes .entry)) 0 (keep (mapsAs kind (now (s .entry)) at n) (now (codes .entry)) (now (codes .entry))) ⌝ }
+    ensures { λ _. ⌜ now (toglyphs .exit) ≡ sets (now (toglyphs .entry)) 0 (keep (mapsAs kind (now (s .entry)) at n) (now (codes .entry)) (now (glyphs .entry))) ⌝ }
+{
+    collect_unicodes(s, at, kind, n, codes, flags);
+    marks::copy_marked_glyphs(flags, glyphs, toglyphs);
+    marks::copy_marked(flags, codes, tocodes)
+}
