@@ -6,3 +6,4 @@ pub mod PiecesLaws
 pub mod StandsLaws
 pub mod EitherLaws
 pub mod SameLaws
+pub mod LookingLaws
