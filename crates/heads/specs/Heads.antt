@@ -17,22 +17,25 @@ leadsTo xs format k = eqb (formatOf (kindAt xs (offsetOf xs k))) format
 
 -- old: the first of the n records that leads to a readable format 4 answers; 11 if there is none
 unfoldable pub oldOf : List ℕ → ℕ → ℕ → Answer
-oldOf xs n c =
+oldOf xs c n =
     let k = first (leadsTo xs 4) n 0 in
     ifLt k n (Glyph (glyphOf (lookup4 xs (offsetOf xs k) c))) (Refused 11)
 
 -- new: the first that leads to a readable format 12; as old if there is none
 unfoldable pub newOf : List ℕ → ℕ → ℕ → Answer
-newOf xs n c =
+newOf xs c n =
     let k = first (leadsTo xs 12) n 0 in
-    ifLt k n (Glyph (glyphOf (lookup12 xs (offsetOf xs k) c))) (oldOf xs n c)
+    ifLt k n (Glyph (glyphOf (lookup12 xs (offsetOf xs k) c))) (oldOf xs c n)
 
--- 5 comes first
-unfoldable pub oldHead : List ℕ → ℕ → Answer
-oldHead xs c = pick (refused5 xs) (Refused 5) (oldOf xs (recordCount xs) c)
+-- 5 comes first; then the records that the header counts answer
+unfoldable pub byRecords : List ℕ → (ℕ → Answer) → Answer
+byRecords xs answer = pick (refused5 xs) (Refused 5) (answer (recordCount xs))
 
-unfoldable pub newHead : List ℕ → ℕ → Answer
-newHead xs c = pick (refused5 xs) (Refused 5) (newOf xs (recordCount xs) c)
+abbrev pub oldHead : List ℕ → ℕ → Answer
+oldHead xs c = byRecords xs (oldOf xs c)
+
+abbrev pub newHead : List ℕ → ℕ → Answer
+newHead xs c = byRecords xs (newOf xs c)
 
 -- an answer's number and glyph: a glyph comes with 0, a refusal with glyph 0
 abbrev pub numberOf : Answer → ℕ

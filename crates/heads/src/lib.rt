@@ -34,9 +34,9 @@ fn first_record(s: &[u8], format: u32, n: usize) -> usize
     i
 }
 
-fn old_of(s: &[u8], n: usize, c: u32) -> Answer
+fn old_of(s: &[u8], c: u32, n: usize) -> Answer
     requires { ⌜ 4 + 8 * n ≤ length (now s) ⌝ }
-    ensures { λ r. ⌜ r ≡ oldOf (now (s .entry)) n c ⌝ }
+    ensures { λ r. ⌜ r ≡ oldOf (now (s .entry)) c n ⌝ }
 {
     let k = first_record(s, 4, n);
     if k < n {
@@ -45,22 +45,22 @@ fn old_of(s: &[u8], n: usize, c: u32) -> Answer
     Answer::Refused(11)
 }
 
-fn new_of(s: &[u8], n: usize, c: u32) -> Answer
+fn new_of(s: &[u8], c: u32, n: usize) -> Answer
     requires { ⌜ 4 + 8 * n ≤ length (now s) ⌝ }
-    ensures { λ r. ⌜ r ≡ newOf (now (s .entry)) n c ⌝ }
+    ensures { λ r. ⌜ r ≡ newOf (now (s .entry)) c n ⌝ }
 {
     let k = first_record(s, 12, n);
     if k < n {
         return Answer::Glyph(lookup::glyph_of(lookup::lookup12(s, source::offset_of(s, k), c)));
     }
-    old_of(s, n, c)
+    old_of(s, c, n)
 }
 
 pub fn old_head(table: &[u8], c: u32) -> Answer
     ensures { λ r. ⌜ r ≡ oldHead (now (table .entry)) c ⌝ }
 {
     match source::header_of(table) {
-        source::Header::Records(n) => old_of(table, n, c),
+        source::Header::Records(n) => old_of(table, c, n),
         source::Header::Refused => Answer::Refused(5),
     }
 }
@@ -69,7 +69,7 @@ pub fn new_head(table: &[u8], c: u32) -> Answer
     ensures { λ r. ⌜ r ≡ newHead (now (table .entry)) c ⌝ }
 {
     match source::header_of(table) {
-        source::Header::Records(n) => new_of(table, n, c),
+        source::Header::Records(n) => new_of(table, c, n),
         source::Header::Refused => Answer::Refused(5),
     }
 }

@@ -7,3 +7,4 @@ pub mod StandsLaws
 pub mod EitherLaws
 pub mod SameLaws
 pub mod LookingLaws
+pub mod FirstLaws
