@@ -15,4 +15,5 @@ pub mod PartedLaws
 pub mod TestLaws
 pub mod PairsLaws
 pub mod SameLaws
+pub mod LookingLaws
 pub mod FirstLaws

@@ -56,3 +56,11 @@ tells-records xs e = subst Told e (by-pick Told (refused5 xs) Refused (Records (
     Told : Header → Type 0
     Told (Records n) = Accepted xs n
     Told Refused = Unit {0}
+
+pub tells-refused : (xs : List ℕ) → headerOf xs ≡ Refused → refused5 xs ≡ true
+unfolding headerOf
+tells-refused xs e = subst Told e (by-pick Told (refused5 xs) Refused (Records (recordCount xs)) (λ t. t) (λ t. tt))
+  where
+    Told : Header → Type 0
+    Told (Records n) = Unit {0}
+    Told Refused = refused5 xs ≡ true

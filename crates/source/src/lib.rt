@@ -1,9 +1,9 @@
 // Reading a source: its header, its records, and what is readable at an offset.
 ghost use mathlib.Core.Path.{_≡_};
-ghost use Prim.Native.Nat.{_-_};
+ghost use Prim.Native.Nat.{_+_, _*_, _-_, _≤_};
 ghost use lib.ListN.{length};
 ghost use Rattle.number.specs.BigEndian.{be};
-ghost use Rattle.source.specs.Header.{headerOf, entryAt};
+ghost use Rattle.source.specs.Header.{headerOf, entryAt, offsetOf};
 ghost use Rattle.source.specs.Kind.{kindAt, formatOf};
 
 // How many records the header announces, or refusal 5.
@@ -63,6 +63,14 @@ pub fn header_of(s: &[u8]) -> Header
     Header::Records(count)
 }
 
+// Where record k leads to.
+pub fn offset_of(s: &[u8], k: usize) -> usize
+    requires { ⌜ 12 + 8 * k ≤ length (now s) ⌝ }
+    ensures { λ r. ⌜ r ≡ offsetOf (now (s .entry)) k ⌝ }
+{
+    number::u32_at(s, 8 + 8 * k) as usize
+}
+
 pub fn record_at(s: &[u8], k: usize) -> Entry
     ensures { λ r. ⌜ r ≡ entryAt (now (s .entry)) k ⌝ }
 {
@@ -76,7 +84,7 @@ pub fn record_at(s: &[u8], k: usize) -> Entry
     Entry::Record(EncodingRecord {
         platform: number::u16_at(s, 4 + 8 * k),
         encoding: number::u16_at(s, 6 + 8 * k),
-        offset: number::u32_at(s, 8 + 8 * k) as usize,
+        offset: offset_of(s, k),
     })
 }
 

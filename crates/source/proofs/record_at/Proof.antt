@@ -33,17 +33,8 @@ add-u16-at-2 c = search needs
 u16-at-requires-2 : tie.Need-u16-at-requires-2
 u16-at-requires-2 c κs = search needs
 
-mul-u32-at : tie.Need-mul-u32-at
-mul-u32-at c = search needs
-
-add-u32-at : tie.Need-add-u32-at
-add-u32-at c = search needs
-
-u32-at-requires : tie.Need-u32-at-requires
-u32-at-requires c κs = search needs
-
-cast-t14 : tie.Need-cast-t14
-cast-t14 c = search needs
+offset-of-requires : tie.Need-offset-of-requires
+offset-of-requires c κs = search needs
 
 returns-3 : tie.Need-returns-3
 unfolding entryAt
@@ -61,8 +52,5 @@ record-at-spec =
     mul-u16-at-2
     add-u16-at-2
     u16-at-requires-2
-    mul-u32-at
-    add-u32-at
-    u32-at-requires
-    cast-t14
+    offset-of-requires
     returns-3)
