@@ -6,3 +6,4 @@ pub mod PiecesLaws
 pub mod PartedLaws
 pub mod TestLaws
 pub mod FirstLaws
+pub mod LengthLaws
