@@ -1,7 +1,7 @@
 -- A walk with the running group ends the groups of the definition.
-use Prim.Native.Nat.{ℕ, suc, _+_, _≤_}
+use Prim.Native.Nat.{ℕ, _+_, _≤_}
 use mathlib.Core.Path.{_≡_, refl, ap, _∙_}
-use mathlib.Core.List.{List, [], _∷_, _++_, map, append-nil}
+use mathlib.Core.List.{List, [], _∷_, _++_, append-nil}
 use mathlib.Core.Bool.{true}
 use native.Mathlib.Omega.{arith}
 use borrow.Author.Tests.{eqb-true}
@@ -14,12 +14,13 @@ use Rattle.laws.specs.Pieces.{pieces}
 use Rattle.laws.proofs.ChoiceLaws.{both-left, both-right, by-pick}
 use Rattle.laws.proofs.TestLaws.{eqb-same, both-same}
 use Rattle.laws.proofs.PiecesLaws.{Joined, lone, more, joined-snoc, pieces-joined, pieces-all}
+use Rattle.laws.proofs.LengthLaws.{length-map, length-pairs}
 use Rattle.laws.proofs.PartedLaws.{length-pieces}
 use Rattle.format12.specs.declared.Group.{Group}
 use Rattle.format12.specs.declared.Absorbed.{Absorbed}
 use Rattle.format12.specs.declared.Ended.the-variants.{Nothing, One}
 use Rattle.format12.specs.Format12.{consecutive, lastOf, group, groupOf, grouped, groups}
-use Rattle.format12.specs.Steps.{isConsecutive, goesOn, idle, come, finish, absorbed, step, toList, groupsFrom}
+use Rattle.format12.specs.Steps.{isConsecutive, goesOn, idle, upTo, finish, absorbed, step, toList, groupsFrom}
 
 -- ---- consecutive pairs
 
@@ -59,19 +60,19 @@ consecutive-last {x} {l} q v =
     both-same (eqb (q .0) (l .0 + 1)) (eqb (q .1 + x .0) (x .1 + q .0)) (eqb (q .1) (l .1 + 1))
     (λ e. let c = eqb-true (q .0) (l .0 + 1) e in eqb-same (q .1 + x .0) (x .1 + q .0) (q .1) (l .1 + 1) (λ h. omega (arith, c, v .same)) (λ h. omega (arith, c, v .same)))
 
-step-come : {x l : Pair} (q : Pair) → Level x l
-    → step (come (x .0) (l .0) (x .1)) (q .0) (q .1)
-    ≡ pick (consecutive l q) (absorbed (come (x .0) (q .0) (x .1)) Nothing) (absorbed (come (q .0) (q .0) (q .1)) (One (group (x .0) (l .0) (x .1))))
+step-running : {x l : Pair} (q : Pair) → Level x l
+    → step (upTo (x .0) (l .0) (x .1)) (q .0) (q .1)
+    ≡ pick (consecutive l q) (absorbed (upTo (x .0) (q .0) (x .1)) Nothing) (absorbed (upTo (q .0) (q .0) (q .1)) (One (group (x .0) (l .0) (x .1))))
 unfolding step goesOn finish
-step-come {x} {l} q v = rw (consecutive-last q v)
+step-running {x} {l} q v = rw (consecutive-last q v)
 
-walk-joined : {x l : Pair} {xs : List Pair} → Joined consecutive x xs l → (ps : List Pair) → groupsFrom (come (x .0) (l .0) (x .1)) ps ≡ groups ((x ∷ xs) ++ ps)
+walk-joined : {x l : Pair} {xs : List Pair} → Joined consecutive x xs l → (ps : List Pair) → groupsFrom (upTo (x .0) (l .0) (x .1)) ps ≡ groups ((x ∷ xs) ++ ps)
 unfolding groupsFrom finish grouped
 walk-joined {x} {l} {xs} j [] = rw (append-nil xs, pieces-all consecutive j, last-joined j)
 walk-joined {x} {l} {xs} j (q ∷ ps) =
-    rw (step-come q (joined-level j))
+    rw (step-running q (joined-level j))
     (by-pick (λ (a : Absorbed). toList (a .ended) ++ groupsFrom (a .state) ps ≡ groups ((x ∷ xs) ++ (q ∷ ps)))
-    (consecutive l q) (absorbed (come (x .0) (q .0) (x .1)) Nothing) (absorbed (come (q .0) (q .0) (q .1)) (One (group (x .0) (l .0) (x .1))))
+    (consecutive l q) (absorbed (upTo (x .0) (q .0) (x .1)) Nothing) (absorbed (upTo (q .0) (q .0) (q .1)) (One (group (x .0) (l .0) (x .1))))
     (λ e. walk-joined (joined-snoc consecutive q j e) ps ∙ ap (λ (l : List Pair). groups (x ∷ l)) (append-snoc xs q ps))
     (λ e. rw (pieces-joined consecutive q ps j e, last-joined j) (ap (λ (g : List Group). group (x .0) (l .0) (x .1) ∷ g) (walk-joined lone ps))))
 
@@ -81,15 +82,6 @@ walk-groups [] = refl
 walk-groups (p ∷ ps) = walk-joined lone ps
 
 -- ---- how many there are
-
-length-map : {A B : Type 0} (f : A → B) (xs : List A) → length (map f xs) ≡ length xs
-length-map f [] = refl
-length-map f (x ∷ xs) = ap suc (length-map f xs)
-
-length-pairs : (cs gs : List ℕ) → length (pairs cs gs) ≤ length cs
-length-pairs [] gs = omega arith
-length-pairs (c ∷ cs) [] = omega arith
-length-pairs (c ∷ cs) (g ∷ gs) = omega (arith, length-pairs cs gs)
 
 pub length-groups : (cs gs : List ℕ) → length (groups (pairs cs gs)) ≤ length cs
 unfolding grouped

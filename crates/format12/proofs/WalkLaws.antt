@@ -61,7 +61,7 @@ fields-append : (a b : List Group) → fields (a ++ b) ≡ fields a ++ fields b
 fields-append [] b = refl
 fields-append (g ∷ a) b = ap (λ (l : List ℕ). g .start ∷ g .end ∷ g .glyph ∷ l) (fields-append a b)
 
-length-fields : (gs : List Group) → length (fields gs) ≡ 3 * length gs
+pub length-fields : (gs : List Group) → length (fields gs) ≡ 3 * length gs
 length-fields [] = refl
 length-fields (g ∷ gs) = omega (arith, length-fields gs)
 

@@ -22,9 +22,9 @@ isConsecutive end start glyph c g = both (eqb c (end + 1)) (eqb (g + start) (gly
 abbrev pub idle : GroupState
 idle = record { running = false; start = 0; end = 0; glyph = 0 }
 
--- the group whose first pair is (a, g) has come to e
-abbrev pub come : ℕ → ℕ → ℕ → GroupState
-come a e g = record { running = true; start = a; end = e; glyph = g }
+-- the group whose first pair is (a, g) has got to e
+abbrev pub upTo : ℕ → ℕ → ℕ → GroupState
+upTo a e g = record { running = true; start = a; end = e; glyph = g }
 
 -- the running group, if any, ends
 unfoldable pub finish : GroupState → Ended
@@ -40,8 +40,8 @@ goesOn s c g = both (s .running) (isConsecutive (s .end) (s .start) (s .glyph) c
 unfoldable pub step : GroupState → ℕ → ℕ → Absorbed
 step s c g =
     pick (goesOn s c g)
-    (absorbed (come (s .start) c (s .glyph)) Nothing)
-    (absorbed (come c c g) (finish s))
+    (absorbed (upTo (s .start) c (s .glyph)) Nothing)
+    (absorbed (upTo c c g) (finish s))
 
 abbrev pub toList : Ended → List Group
 toList Nothing = []

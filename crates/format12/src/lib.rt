@@ -7,7 +7,7 @@ ghost use lib.Seq.{sets};
 ghost use Rattle.laws.specs.Lists.{pairs};
 ghost use Rattle.number.specs.Columns.{encs};
 ghost use Rattle.format12.specs.Format12.{groups, fields, header, format12, sizeOf, Columns, Room};
-ghost use Rattle.format12.specs.Steps.{isConsecutive, goesOn, Counted, idle, come, finish, step, toList};
+ghost use Rattle.format12.specs.Steps.{isConsecutive, goesOn, Counted, idle, upTo, finish, step, toList};
 
 // Code points start to end; the first has this glyph, each next one the next.
 pub struct Group {
@@ -75,9 +75,9 @@ impl GroupState {
         Ended::Nothing
     }
 
-    // The group up to c.
-    pub fn come(start: u32, c: u32, glyph: u16) -> Self
-        ensures { λ r. ⌜ r ≡ come start c glyph ⌝ }
+    // A group of which c is the last pair seen.
+    pub fn up_to(start: u32, c: u32, glyph: u16) -> Self
+        ensures { λ r. ⌜ r ≡ upTo start c glyph ⌝ }
     {
         GroupState {
             running: true,
@@ -103,12 +103,12 @@ impl GroupState {
     {
         if self.goes_on(c, g) {
             return Absorbed {
-                state: GroupState::come(self.start, c, self.glyph),
+                state: GroupState::up_to(self.start, c, self.glyph),
                 ended: Ended::Nothing,
             };
         }
         Absorbed {
-            state: GroupState::come(c, c, g),
+            state: GroupState::up_to(c, c, g),
             ended: self.finish(),
         }
     }
@@ -124,7 +124,7 @@ fn count_ended(ended: Ended) -> usize
 }
 
 // How many groups the pairs make.
-pub fn count_groups(codes: &[u32], glyphs: &[u16]) -> usize
+fn count_groups(codes: &[u32], glyphs: &[u16]) -> usize
     requires { ⌜ Columns (now codes) (now glyphs) ⌝ }
     ensures { λ r. ⌜ r ≡ length (groups (pairs (now (codes .entry)) (now (glyphs .entry)))) ⌝ }
 {
@@ -178,7 +178,7 @@ fn put_ended(out: &mut [u8], at: usize, ended: Ended) -> usize
 }
 
 // Writes the groups that the pairs make.
-pub fn write_groups(out: &mut [u8], at: usize, codes: &[u32], glyphs: &[u16])
+fn write_groups(out: &mut [u8], at: usize, codes: &[u32], glyphs: &[u16])
     requires { ⌜ Columns (now codes) (now glyphs) ⌝ }
     requires { ⌜ at + 12 * length (groups (pairs (now codes) (now glyphs))) ≤ length (now out) ⌝ }
     ensures { λ _. ⌜ now (out .exit) ≡ sets (now (out .entry)) at (encs 4 (fields (groups (pairs (now (codes .entry)) (now (glyphs .entry)))))) ⌝ }

@@ -2,7 +2,7 @@
 use Prim.Native.Nat.{ℕ, zero, suc, _+_, _*_, _^_, _≤_, _<_}
 use mathlib.Core.Path.{_≡_, refl, _∙_}
 use mathlib.Core.List.{List, [], _∷_, _++_, map}
-use native.Mathlib.Nat.{add-zero, add-assoc, not-suc-le-zero}
+use native.Mathlib.Nat.{not-suc-le-zero}
 use native.Mathlib.Omega.{arith}
 use lib.ListN.{length, getD, length-append}
 use Rattle.laws.specs.Lists.{Pair}
@@ -12,12 +12,13 @@ use Rattle.laws.proofs.PartedLaws.{Parted, parted-none, parted-last, parted-mor
 use Rattle.number.specs.BigEndian.{be}
 use Rattle.number.specs.Columns.{encs}
 use Rattle.number.proofs.BigEndianLaws.{be-front, be-back}
-use Rattle.number.proofs.ColumnsLaws.{length-encs, be-encs}
+use Rattle.number.proofs.ColumnsLaws.{length-encs, be-encs, be-between}
 use Rattle.format12.specs.declared.Group.{Group}
 use Rattle.format12.specs.Format12.{consecutive, group, groupOf, grouped, groups, fields, tableLength, header, table, format12}
 use Rattle.format12.proofs.GroupsLaws.{last-joined}
+use Rattle.format12.proofs.WalkLaws.{length-fields}
 use Rattle.format12.proofs.TableLaws.{length-header, length-table}
-use Rattle.format12_lookup.specs.Lookup.{Above, GroupAt, HeaderAt, TableAt}
+use Rattle.format12_lookup.specs.Lookup.{Above, groupAt, HeaderAt}
 use Rattle.format12_lookup.proofs.LookupLaws.{above-first, row-rest}
 
 -- ---- numbers that fit four bytes
@@ -67,21 +68,27 @@ fields-at (g ∷ gs) (suc k) d h =
     let t = fields-at gs k d (omega arith) in
     rw e (record { start = t .start; end = t .end; glyph = t .glyph })
 
-module _ (format language : ℕ) (gs : List Group) where
-  entry-at : (j at : ℕ) → at ≡ 16 + 4 * j → getD (fields gs) j 0 < 256 ^ 4 → be 4 (table format language gs) at ≡ getD (fields gs) j 0
+module _ (front back : List ℕ) (format language : ℕ) (gs : List Group) where
+  entry-at : (j at : ℕ) → at ≡ length front + (16 + 4 * j) → j < length (fields gs) → getD (fields gs) j 0 < 256 ^ 4
+      → be 4 (front ++ (table format language gs ++ back)) at ≡ getD (fields gs) j 0
   unfolding table
-  entry-at j at e h =
-      let p : at ≡ length (header format language (length gs)) + 4 * j = omega (arith, e, length-header format language (length gs)) in
-      rw p (be-back 4 (header format language (length gs)) (encs 4 (fields gs)) (4 * j) ∙ be-encs 4 (fields gs) j h)
+  entry-at j at e l h =
+      let hd = header format language (length gs) in
+      let b = encs 4 (fields gs) in
+      let p : 16 + 4 * j ≡ length hd + 4 * j = omega (arith, length-header format language (length gs)) in
+      be-between 4 front (hd ++ b) back (16 + 4 * j) at e (rw (length-append hd b) (omega (arith, length-header format language (length gs), length-encs 4 (fields gs), l)))
+      ∙ rw p (be-back 4 hd b (4 * j) ∙ be-encs 4 (fields gs) j h)
 
-  table-group : Fit (fields gs) → (k : ℕ) (d : Group) → k < length gs → GroupAt (table format language gs) (16 + 12 * k) (getD gs k d)
+  table-group : Fit (fields gs) → (k : ℕ) (d : Group) → k < length gs → groupAt (front ++ (table format language gs ++ back)) (length front) k ≡ getD gs k d
   table-group f k d h =
       let t = fields-at gs k d h in
-      record {
-        start = entry-at (3 * k) (16 + 12 * k) (omega arith) (f .each (3 * k)) ∙ t .start;
-        end = entry-at (suc (3 * k)) (16 + 12 * k + 4) (omega arith) (f .each (suc (3 * k))) ∙ t .end;
-        glyph = entry-at (suc (suc (3 * k))) (16 + 12 * k + 8) (omega arith) (f .each (suc (suc (3 * k)))) ∙ t .glyph;
-      }
+      let m = length-fields gs in
+      let a = length front in
+      rw (
+        entry-at (3 * k) (a + 16 + 12 * k) (omega arith) (omega (arith, m, h)) (f .each (3 * k)) ∙ t .start,
+        entry-at (suc (3 * k)) (a + 20 + 12 * k) (omega arith) (omega (arith, m, h)) (f .each (suc (3 * k))) ∙ t .end,
+        entry-at (suc (suc (3 * k))) (a + 24 + 12 * k) (omega arith) (omega (arith, m, h)) (f .each (suc (suc (3 * k)))) ∙ t .glyph,
+      )
 
 -- ---- the header
 
@@ -104,46 +111,22 @@ module _ (format language n : ℕ) (rest : List ℕ) where
 
 -- ---- the subtable of the pairs, between other bytes
 
-be-between : (w : ℕ) (front xs back : List ℕ) (at : ℕ) → at + w ≤ length xs → be w (front ++ (xs ++ back)) (length front + at) ≡ be w xs at
-be-between w front xs back at h = be-back w front (xs ++ back) at ∙ be-front w xs back at h
+module _ (front back : List ℕ) (language : ℕ) (ps : List Pair) where
+  pub format12-group : Above 0 ps → (k : ℕ) (d : Group) → k < length (groups ps) → groupAt (front ++ (format12 language ps ++ back)) (length front) k ≡ getD (groups ps) k d
+  format12-group a = table-group front back 12 language (groups ps) (groups-fit ps a)
 
-module _ (front xs back : List ℕ) where
-  group-between : {at : ℕ} {g : Group} → GroupAt xs at g → at + 12 ≤ length xs → GroupAt (front ++ (xs ++ back)) (length front + at) g
-  group-between {at} r h = record {
-    start = be-between 4 front xs back at (omega arith) ∙ r .start;
-    end = rw (add-assoc (length front) at 4) (be-between 4 front xs back (at + 4) (omega arith) ∙ r .end);
-    glyph = rw (add-assoc (length front) at 8) (be-between 4 front xs back (at + 8) (omega arith) ∙ r .glyph);
-  }
-
-  header-between : {format bytes language n : ℕ} → HeaderAt xs 0 format bytes language n → 16 ≤ length xs → HeaderAt (front ++ (xs ++ back)) (length front) format bytes language n
-  header-between r h = record {
-    format-is = rw (add-zero (length front)) at (be-between 2 front xs back 0 (omega arith)) ∙ r .format-is;
-    length-is = be-between 4 front xs back 4 (omega arith) ∙ r .length-is;
-    language-is = be-between 4 front xs back 8 (omega arith) ∙ r .language-is;
-    count-is = be-between 4 front xs back 12 (omega arith) ∙ r .count-is;
-  }
-
-module _ (language : ℕ) (ps : List Pair) where
-  pub format12-group : Above 0 ps → (k : ℕ) (d : Group) → k < length (groups ps) → GroupAt (format12 language ps) (16 + 12 * k) (getD (groups ps) k d)
-  format12-group a = table-group 12 language (groups ps) (groups-fit ps a)
-
-  pub format12-header : language < 4294967296 → length (groups ps) ≤ 65535 → HeaderAt (format12 language ps) 0 12 (tableLength (length (groups ps))) language (length (groups ps))
+  pub format12-header : language < 4294967296 → length (groups ps) ≤ 65535
+      → HeaderAt (front ++ (format12 language ps ++ back)) (length front) 12 (tableLength (length (groups ps))) language (length (groups ps))
   unfolding table
   format12-header l m =
       let n = length (groups ps) in
       let b = encs 4 (fields (groups ps)) in
-      record {
-        format-is = header-format 12 language n b (omega arith);
-        length-is = header-number 12 language n b 0 4 (omega arith) (omega arith) (omega (arith, m));
-        language-is = header-number 12 language n b 1 8 (omega arith) (omega arith) (omega (arith, l));
-        count-is = header-number 12 language n b 2 12 (omega arith) (omega arith) (omega (arith, m));
-      }
-
-  pub format12-at : (front back : List ℕ) (d : Group) → Above 0 ps → language < 4294967296 → length (groups ps) ≤ 65535
-      → TableAt (front ++ (format12 language ps ++ back)) (length front) 12 language (groups ps) d
-  format12-at front back d a l m =
+      let t = format12 language ps in
+      let a = length front in
       let e = length-table 12 language (groups ps) in
       record {
-        header = header-between front (format12 language ps) back (format12-header l m) (omega (arith, e));
-        group = λ k h. group-between front (format12 language ps) back (format12-group a k d h) (omega (arith, e, h));
+        format-is = be-between 2 front t back 0 a (omega arith) (omega (arith, e)) ∙ header-format 12 language n b (omega arith);
+        length-is = be-between 4 front t back 4 (a + 4) refl (omega (arith, e)) ∙ header-number 12 language n b 0 4 (omega arith) (omega arith) (omega (arith, m));
+        language-is = be-between 4 front t back 8 (a + 8) refl (omega (arith, e)) ∙ header-number 12 language n b 1 8 (omega arith) (omega arith) (omega (arith, l));
+        count-is = be-between 4 front t back 12 (a + 12) refl (omega (arith, e)) ∙ header-number 12 language n b 2 12 (omega arith) (omega arith) (omega (arith, m));
       }

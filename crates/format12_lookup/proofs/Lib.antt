@@ -1,4 +1,4 @@
 pub mod LookupLaws
 pub mod BytesLaws
 pub mod Cases
-pub mod FirstGroupLaws
+pub mod Lookup12Laws

@@ -1,16 +1,16 @@
 -- What a lookup finds in groups (docs/01-rules.md, "Heads", format 12), and what the pairs list.
 -- Both are told by `none`, nothing there, and `glyph`, a glyph there, which may be 0.
-use Prim.Native.Nat.{ℕ, suc, _+_, _-_, _*_, _≤_, _<_}
+use Prim.Native.Nat.{ℕ, suc, _+_, _-_, _*_, _≤_}
 use mathlib.Core.Path.{_≡_}
 use mathlib.Core.List.{List, [], _∷_}
-use lib.ListN.{length, getD}
 use lib.Dec.{leb, eqb}
 use Rattle.laws.specs.Choice.{pick, ifLt, ifLe}
+use Rattle.laws.specs.Search.{first}
 use Rattle.laws.specs.Lists.{Pair}
 use Rattle.number.specs.BigEndian.{be}
 use Rattle.number.specs.Limits.{unicodeMax}
 use Rattle.format12.specs.declared.Group.{Group}
-use Rattle.format12.specs.Format12.{tableLength}
+use Rattle.format12.specs.Format12.{group}
 
 -- none where start exceeds c, or the glyph exceeds 65,535
 unfoldable pub inGroup : {A : Type 0} → A → (ℕ → A) → Group → ℕ → A
@@ -33,20 +33,21 @@ pub data Above : ℕ → List Pair → Type 0 where
   above-none : {lo : ℕ} → Above lo []
   above-more : {lo : ℕ} {p : Pair} {ps : List Pair} → lo ≤ p .0 → p .0 ≤ unicodeMax → p .1 ≤ 65535 → Above (suc (p .0)) ps → Above lo (p ∷ ps)
 
--- the bytes from `at` on are the three numbers of a group
-pub record GroupAt (xs : List ℕ) (at : ℕ) (g : Group) : Type 0 where
-  pub start : be 4 xs at ≡ g .start
-  pub end : be 4 xs (at + 4) ≡ g .end
-  pub glyph : be 4 xs (at + 8) ≡ g .glyph
+-- ---- in bytes, the subtable standing at a place
 
--- the bytes from `at` on are a header with these numbers
+-- its k-th group
+abbrev pub groupAt : List ℕ → ℕ → ℕ → Group
+groupAt xs at k = group (be 4 xs (at + 16 + 12 * k)) (be 4 xs (at + 20 + 12 * k)) (be 4 xs (at + 24 + 12 * k))
+
+-- the same lookup in the n groups there
+unfoldable pub lookup12 : {A : Type 0} → A → (ℕ → A) → List ℕ → ℕ → ℕ → ℕ → A
+lookup12 none glyph xs at n c =
+    let k = first (λ k. leb c (groupAt xs at k .end)) n 0 in
+    ifLt k n (inGroup none glyph (groupAt xs at k) c) none
+
+-- its header has these numbers
 pub record HeaderAt (xs : List ℕ) (at format bytes language n : ℕ) : Type 0 where
   pub format-is : be 2 xs at ≡ format
   pub length-is : be 4 xs (at + 4) ≡ bytes
   pub language-is : be 4 xs (at + 8) ≡ language
   pub count-is : be 4 xs (at + 12) ≡ n
-
--- the bytes from `at` on are a subtable of these groups; d stands for a group that is not there
-pub record TableAt (xs : List ℕ) (at format language : ℕ) (gs : List Group) (d : Group) : Type 0 where
-  pub header : HeaderAt xs at format (tableLength (length gs)) language (length gs)
-  pub group : (k : ℕ) → k < length gs → GroupAt xs (at + (16 + 12 * k)) (getD gs k d)

@@ -17,3 +17,4 @@ pub mod PairsLaws
 pub mod SameLaws
 pub mod LookingLaws
 pub mod FirstLaws
+pub mod LengthLaws

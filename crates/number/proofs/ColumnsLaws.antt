@@ -1,5 +1,5 @@
 -- The laws of numbers one after the other: their length, their joining, and each read back.
-use Prim.Native.Nat.{ℕ, zero, suc, _+_, _*_, _^_, _<_}
+use Prim.Native.Nat.{ℕ, zero, suc, _+_, _*_, _^_, _<_, _≤_}
 use mathlib.Core.Path.{_≡_, refl, sym, _∙_}
 use mathlib.Core.List.{List, [], _∷_, _++_, append-assoc, append-nil}
 use native.Mathlib.Nat.{mul-zero, mul-suc, mul-le-mul-left}
@@ -40,9 +40,12 @@ be-encs w (v ∷ vs) (suc k) h =
     let e : w * suc k ≡ length (enc w v) + w * k = rw (length-enc w v, mul-suc w k) (omega arith) in
     rw e (be-back w (enc w v) (encs w vs) (w * k) ∙ be-encs w vs k h)
 
--- the k-th, with bytes before the numbers and behind them
+-- a number with bytes before and behind
+pub be-between : (w : ℕ) (front xs back : List ℕ) (at bt : ℕ) → bt ≡ length front + at → at + w ≤ length xs → be w (front ++ (xs ++ back)) bt ≡ be w xs at
+be-between w front xs back at bt e h = rw e (be-back w front (xs ++ back) at ∙ be-front w xs back at h)
+
 pub be-encs-between : (w : ℕ) (front vs back : List ℕ) (k at : ℕ) → at ≡ length front + w * k → k < length vs → getD vs k 0 < 256 ^ w
     → be w (front ++ (encs w vs ++ back)) at ≡ getD vs k 0
 be-encs-between w front vs back k at e l h =
     let m : w * k + w ≡ w * suc k = sym (mul-suc w k) in
-    rw e (be-back w front (encs w vs ++ back) (w * k) ∙ be-front w (encs w vs) back (w * k) (rw (length-encs w vs) (rw m (mul-le-mul-left w l))) ∙ be-encs w vs k h)
+    be-between w front (encs w vs) back (w * k) at e (rw (length-encs w vs, m) (mul-le-mul-left w l)) ∙ be-encs w vs k h
