@@ -4,3 +4,4 @@ pub mod SetsLaws
 pub mod RisingLaws
 pub mod PiecesLaws
 pub mod SomeLaws
+pub mod FrontLaws

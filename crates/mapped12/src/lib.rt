@@ -100,7 +100,14 @@ fn mark_groups(s: &[u8], at: usize, groups: usize, n: u32, points: &[u32], flags
 }
 
 // Sets the flag of each point to whether the subtable maps it.
-pub fn collect_unicodes12(s: &[u8], at: usize, groups: usize, n: u32, points: &[u32], flags: &mut [u8])
+pub fn collect_unicodes12(
+    s: &[u8],
+    at: usize,
+    groups: usize,
+    n: u32,
+    points: &[u32],
+    flags: &mut [u8],
+)
     requires { ⌜ Room12 (now s) at groups n ⌝ }
     requires { ⌜ Flags (now points) (now flags) ⌝ }
     ensures { λ _. ⌜ now (flags .exit) ≡ sets (now (flags .entry)) 0 (flagged (maps12 (now (s .entry)) at groups n) (now (points .entry))) ⌝ }

@@ -2,11 +2,10 @@
 use native.Mathlib.Omega.{arith}
 use Rattle.laws.proofs.ChoiceLaws.{if-lt, else-lt, if-le, else-le}
 use Rattle.mapped12.specs.Mapped12.{clip12}
-use mathlib.Core.Path.{refl, sym, ap, _∙_}
+use mathlib.Core.Path.{refl}
 use borrow.Author.Needs.{needs}
 use Rattle.mapped12.proofs.clip.Statement.{statement}
 use Rattle.mapped12.proofs.clip.Tie as tie
-use Rattle.mapped12.proofs.least.Reads as least-reads
 
 returns : tie.Need-returns
 unfolding clip12

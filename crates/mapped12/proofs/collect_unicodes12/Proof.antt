@@ -1,11 +1,8 @@
 -- The walk starts from cleared flags.
-use native.Mathlib.Omega.{arith}
 use Rattle.marks.proofs.MarksLaws.{cleared, cleared-flagged}
 use borrow.Author.Needs.{needs}
 use Rattle.mapped12.proofs.collect_unicodes12.Statement.{statement}
 use Rattle.mapped12.proofs.collect_unicodes12.Tie as tie
-use Rattle.mapped12.proofs.mark_groups.Reads as mark-groups-reads
-use Rattle.marks.proofs.clear.Reads as clear-reads
 
 clear-requires : tie.Need-clear-requires
 clear-requires c κs = search needs

@@ -3,12 +3,10 @@ use native.Mathlib.Omega.{arith}
 use Rattle.laws.proofs.ChoiceLaws.{if-lt, if-eq, else-eq}
 use Rattle.laws.proofs.SomeLaws.{each-eq}
 use Rattle.mapped12.specs.Mapped12.{cut12, clip12}
-use mathlib.Core.Path.{refl, sym, ap, _∙_}
+use mathlib.Core.Path.{refl}
 use borrow.Author.Needs.{needs}
 use Rattle.mapped12.proofs.cut.Statement.{statement}
 use Rattle.mapped12.proofs.cut.Tie as tie
-use Rattle.mapped12.proofs.clip.Reads as clip-reads
-use Rattle.mapped12.proofs.least.Reads as least-reads
 
 least-requires : tie.Need-least-requires
 least-requires c κs = search needs

@@ -1,10 +1,7 @@
 -- Each field is read at its place.
-use native.Mathlib.Omega.{arith}
 use borrow.Author.Needs.{needs}
 use Rattle.mapped12.proofs.group_at.Statement.{statement}
 use Rattle.mapped12.proofs.group_at.Tie as tie
-use Rattle.mapped12.proofs.cut.Reads as cut-reads
-use Rattle.number.proofs.u32_at.Reads as u32-at-reads
 
 add-u32-at : tie.Need-add-u32-at
 add-u32-at c = search needs

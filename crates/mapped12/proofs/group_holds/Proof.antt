@@ -1,11 +1,8 @@
 -- The tests are the definition's own.
-use native.Mathlib.Omega.{arith}
 use Rattle.laws.proofs.ChoiceLaws.{tests}
-use mathlib.Core.Path.{refl, sym, ap, _∙_}
 use borrow.Author.Needs.{needs}
 use Rattle.mapped12.proofs.group_holds.Statement.{statement}
 use Rattle.mapped12.proofs.group_holds.Tie as tie
-use Rattle.mapped12.proofs.group_at.Reads as group-at-reads
 
 group-at-requires : tie.Need-group-at-requires
 group-at-requires c κs = search needs

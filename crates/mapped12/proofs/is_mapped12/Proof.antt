@@ -1,12 +1,10 @@
 -- What is left of the groups gives what all give.
 use borrow.Author.Needs.{needs}
-use native.Mathlib.Omega.{arith}
 use Prim.Native.Nat.{_-_}
 use Rattle.laws.proofs.SearchLaws.{Asking, asking}
 use Rattle.mapped12.specs.Mapped12.{group12, stretchHolds, maps12}
 use Rattle.mapped12.proofs.is_mapped12.Statement.{statement}
 use Rattle.mapped12.proofs.is_mapped12.Tie as tie
-use Rattle.mapped12.proofs.group_holds.Reads as group-holds-reads
 
 abbrev Inv-loop : tie.InvT-loop
 Inv-loop s at groups n c g₀ g = Asking (λ i. stretchHolds (group12 s at n i) c) groups g

@@ -1,12 +1,9 @@
 -- After g groups the flags say what those groups map.
 use borrow.Author.Needs.{needs}
-use native.Mathlib.Omega.{arith}
 use Prim.Native.Nat.{_-_}
 use Rattle.mapped12.proofs.Mapped12Laws.{Marking, marking}
 use Rattle.mapped12.proofs.mark_groups.Statement.{statement}
 use Rattle.mapped12.proofs.mark_groups.Tie as tie
-use Rattle.mapped12.proofs.group_at.Reads as group-at-reads
-use Rattle.marks.proofs.mark_points.Reads as mark-points-reads
 
 abbrev Inv-loop : tie.InvT-loop
 Inv-loop s at groups n points flags₀ g₀ flags g = Marking s at groups n points flags₀ flags g
