@@ -18,3 +18,4 @@ pub mod SameLaws
 pub mod LookingLaws
 pub mod FirstLaws
 pub mod LengthLaws
+pub mod FrontLaws

@@ -4,3 +4,4 @@ pub mod Lists
 pub mod Pieces
 pub mod Select
 pub mod Linked
+pub mod Same

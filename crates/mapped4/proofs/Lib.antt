@@ -1,1 +1,2 @@
 pub mod Mapped4Laws
+pub mod CasesLaws

@@ -1,1 +1,2 @@
 pub mod Mapped4
+pub mod Cases

@@ -33,17 +33,18 @@ holds4 g = between (g .start) (g .end)
 abbrev pub entries4 : ℕ → ℕ → ℕ
 entries4 s len = (len - (16 + 8 * s)) / 2
 
--- the entry `away` behind the one that stands for the segment's start, whose index is place - s: unmapped if the start's index is negative,
--- this one's is past the array, or the entry is 0
-unfoldable pub entryMaps4 : List ℕ → ℕ → ℕ → ℕ → ℕ → ℕ → Bool
-entryMaps4 xs at s len place away =
+-- the glyph array's entry for a code point `away` past its segment's start, whose own index is place - s;
+-- 0 where the start's index is negative, or this one is past the array
+unfoldable pub entry4 : List ℕ → ℕ → ℕ → ℕ → ℕ → ℕ → ℕ
+entry4 xs at s len place away =
     let index = place + away - s in
-    ifLt place s false (ifLt index (entries4 s len) (ltb 0 (be 2 xs (at + 16 + 8 * s + 2 * index))) false)
+    ifLt place s 0 (ifLt index (entries4 s len) (be 2 xs (at + 16 + 8 * s + 2 * index)) 0)
 
--- what segment i says of a c that it holds: with offset 0 the sum of c and delta counts, else the entry at offset/2 + (c - start) + i - s
+-- whether segment i maps a c that it holds: with offset 0 if the sum of c and delta is not 0; otherwise the index is
+-- offset/2 + (c - start) + i - s, and c is mapped if the entry is not 0. Delta is not added to it here.
 unfoldable pub says4 : List ℕ → ℕ → ℕ → ℕ → ℕ → Segment → ℕ → Bool
 says4 xs at s len i g c =
-    ifEq (g .offset) 0 (ltb 0 ((c + g .delta) % 65536)) (entryMaps4 xs at s len (g .offset / 2 + i) (c - g .start))
+    ifEq (g .offset) 0 (ltb 0 ((c + g .delta) % 65536)) (ltb 0 (entry4 xs at s len (g .offset / 2 + i) (c - g .start)))
 
 -- the last of the first n places that is a hit decides; where none is, the answer is no
 unfoldable pub lastSays : (ℕ → Bool) → (ℕ → Bool) → ℕ → Bool

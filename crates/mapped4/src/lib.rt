@@ -5,13 +5,18 @@ ghost use lib.ListN.{length};
 ghost use lib.Seq.{sets};
 ghost use Rattle.laws.specs.Choice.{pick};
 ghost use Rattle.marks.specs.Marks.{flagged, flagOf, painted, Flags, Inside, Cleared};
-ghost use Rattle.mapped4.specs.Mapped4.{Room4, Read4, entryMaps4, says4, holds4, maps4};
+ghost use Rattle.mapped4.specs.Mapped4.{Room4, Read4, entry4, says4, holds4, maps4};
 
 pub struct Segment {
     pub start: u32,
     pub end: u32,
     pub delta: u32,
     pub offset: u32,
+}
+
+impl Segment {
+    // A segment with this start, and all behind it, is not walked.
+    const WALK_END: u32 = 0xFFFF;
 }
 
 fn segment_at(s: &[u8], at: usize, segs: usize, i: usize) -> Segment
@@ -31,19 +36,19 @@ fn segment_at(s: &[u8], at: usize, segs: usize, i: usize) -> Segment
     }
 }
 
-fn entry_maps(s: &[u8], at: usize, segs: usize, len: usize, place: usize, away: usize) -> bool
+fn entry(s: &[u8], at: usize, segs: usize, len: usize, place: usize, away: usize) -> u32
     requires { ⌜ Room4 (now s) at segs len ⌝ }
     requires { ⌜ (place < 131072) × (away < 65536) ⌝ }
-    ensures { λ r. ⌜ r ≡ entryMaps4 (now (s .entry)) at segs len place away ⌝ }
+    ensures { λ r. ⌜ r ≡ entry4 (now (s .entry)) at segs len place away ⌝ }
 {
     if place < segs {
-        return false;
+        return 0;
     }
     let index = place + away - segs;
     if index < (len - (16 + 8 * segs)) / 2 {
-        return 0 < number::u16_at(s, at + 16 + 8 * segs + 2 * index);
+        return number::u16_at(s, at + 16 + 8 * segs + 2 * index);
     }
-    false
+    0
 }
 
 // What segment i says of a code point that it holds.
@@ -65,14 +70,9 @@ fn segment_maps(
     if segment.offset == 0 {
         return 0 < (c + segment.delta) % 65536;
     }
-    entry_maps(
-        s,
-        at,
-        segs,
-        len,
-        (segment.offset / 2) as usize + i,
-        (c - segment.start) as usize,
-    )
+    let place = (segment.offset / 2) as usize + i;
+    let away = (c - segment.start) as usize;
+    0 < entry(s, at, segs, len, place, away)
 }
 
 // What is said of c up to segment i, where `before` is what was said before it.
@@ -109,7 +109,7 @@ pub fn is_mapped4(s: &[u8], at: usize, segs: usize, len: usize, c: u32) -> bool
     let mut i = 0;
     while i < segs {
         let segment = segment_at(s, at, segs, i);
-        if segment.start == 0xFFFF {
+        if segment.start == Segment::WALK_END {
             return mapped;
         }
         mapped = decide(s, at, segs, len, i, segment, c, mapped);
@@ -164,7 +164,7 @@ fn mark_segments(s: &[u8], at: usize, segs: usize, len: usize, points: &[u32], f
     let mut i = 0;
     while i < segs {
         let segment = segment_at(s, at, segs, i);
-        if segment.start == 0xFFFF {
+        if segment.start == Segment::WALK_END {
             return;
         }
         mark_segment(s, at, segs, len, i, segment, points, flags);

@@ -11,7 +11,8 @@ use borrow.Author.Tests.{lt-ltb, le-ltb, ne-eqb}
 use Rattle.laws.specs.Choice.{pick, either}
 use Rattle.laws.specs.Lists.{Rising}
 use Rattle.laws.proofs.ChoiceLaws.{by-pick, by-leb}
-use Rattle.laws.proofs.RisingLaws.{rising-lt, rising-tail}
+use Rattle.laws.proofs.RisingLaws.{rising-tail}
+use Rattle.laws.proofs.FrontLaws.{rising-above}
 use Rattle.marks.specs.Marks.{below, holds, Bound, Inside}
 
 -- ---- below
@@ -27,10 +28,6 @@ pub below-none : (ps : List ℕ) (c : ℕ) → ((i : ℕ) → i < length ps → 
 unfolding below
 below-none [] c h = refl
 below-none (x ∷ xs) c h = rw (le-ltb x c (h 0 (omega arith))) (below-none xs c (λ i l. h (suc i) (omega arith)))
-
--- the rest of a rising list lies above its first
-pub rising-above : {x : ℕ} {xs : List ℕ} → Rising (x ∷ xs) → (i : ℕ) → i < length xs → x < getD xs i 0
-rising-above r i h = rising-lt r 0 (suc i) (omega arith) (omega arith)
 
 pub below-tail : {x : ℕ} {xs : List ℕ} (c : ℕ) → Rising (x ∷ xs) → c ≤ x → below xs c ≡ 0
 below-tail {x} {xs} c r h = below-none xs c (λ i l. omega (arith, rising-above r i l))

@@ -8,12 +8,13 @@ use native.Mathlib.Numerals.{add-one}
 use native.Mathlib.Omega.{arith}
 use lib.Dec.{ltb, leb, eqb}
 use lib.ListN.{length, getD, drop, set, replicate, length-set, length-replicate, drop-of-length-le}
-use lib.Seq.{sets, sets-eq, length-sets, drop-cons, set-set, set-comm}
+use lib.Seq.{sets, length-sets, drop-cons}
 use borrow.Author.Tests.{lt-ltb, le-ltb, le-leb, lt-leb, eq-eqb, ne-eqb}
 use Rattle.laws.specs.Choice.{pick, both}
 use Rattle.laws.specs.Lists.{Rising, keep}
 use Rattle.laws.proofs.ChoiceLaws.{by-leb}
 use Rattle.laws.proofs.RisingLaws.{rising-tail}
+use Rattle.laws.proofs.FrontLaws.{sets-front, sets-over}
 use Rattle.marks.specs.Marks.{between, below, flagOf, flagged, painted, kept, Bound, Flags, Cleared}
 use Rattle.marks.proofs.BelowLaws.{below-tail}
 
@@ -114,17 +115,6 @@ unfolding painted flagged
 painted-front h v q [] rest = refl
 painted-front h v q (c ∷ cs) rest = rw (flag-pick (h c) (v c) (q c), painted-front h v q cs rest)
 
-sets-front : (fs vs : List ℕ) → length vs ≤ length fs → sets fs 0 vs ≡ vs ++ drop (length vs) fs
-sets-front fs vs h =
-    let z : 0 + length vs ≡ length vs = omega arith in
-    sets-eq vs fs 0 (rw z h) ∙ rw z
-
--- a store before a run of stores, made after it
-set-sets : (l : List ℕ) (i j : ℕ) (vs : List ℕ) (w : ℕ) → i < j → set (sets l j vs) i w ≡ sets (set l i w) j vs
-set-sets l i j [] w h = refl
-set-sets l i j (v ∷ vs) w h =
-    rw (set-sets (set l j v) i (suc j) vs w (omega arith), set-comm l j i v w (λ e. omega arith))
-
 -- painting over flags that say q
 pub painted-flagged : (h v q : ℕ → Bool) (ps fs : List ℕ) → length ps ≤ length fs
     → painted h v ps (sets fs 0 (flagged q ps)) ≡ sets fs 0 (flagged (λ c. pick (h c) (v c) (q c)) ps)
@@ -149,14 +139,6 @@ saying-on {q} {ps} {fs₀} {fs} h v p {fs′} s k e w =
     record { is = all; same = rw all (length-sets fs₀ 0 (flagged p ps)) }
 
 -- ---- cleared flags
-
--- a run of stores over another of the same length
-sets-over : (l : List ℕ) (i : ℕ) (vs ws : List ℕ) → length vs ≡ length ws → sets (sets l i vs) i ws ≡ sets l i ws
-sets-over l i [] [] h = refl
-sets-over l i [] (w ∷ ws) h = absurd (omega arith)
-sets-over l i (v ∷ vs) [] h = absurd (omega arith)
-sets-over l i (v ∷ vs) (w ∷ ws) h =
-    rw (set-sets (set l i v) i (suc i) vs w (omega arith), set-set l i v w) (sets-over (set l i w) (suc i) vs ws (omega arith))
 
 pub cleared : (n : ℕ) (fs₀ fs : List ℕ) → fs ≡ sets fs₀ 0 (replicate n 0) → Cleared n fs
 cleared n fs₀ fs e = record { is = rw e (sym (sets-over fs₀ 0 (replicate n 0) (replicate n 0) refl)) }

@@ -1,15 +1,14 @@
 -- The tests are the definition's own.
 use native.Mathlib.Omega.{arith}
 use Rattle.laws.proofs.ChoiceLaws.{if-lt, else-lt}
-use Rattle.mapped4.specs.Mapped4.{entryMaps4}
-use mathlib.Core.Path.{refl, ap}
-use lib.Dec.{ltb}
+use Rattle.mapped4.specs.Mapped4.{entry4}
+use mathlib.Core.Path.{refl}
 use borrow.Author.Needs.{needs}
-use Rattle.mapped4.proofs.entry_maps.Statement.{statement}
-use Rattle.mapped4.proofs.entry_maps.Tie as tie
+use Rattle.mapped4.proofs.entry.Statement.{statement}
+use Rattle.mapped4.proofs.entry.Tie as tie
 
 returns : tie.Need-returns
-unfolding entryMaps4
+unfolding entry4
 returns c = if-lt _ _ _ _ (omega arith) refl
 
 add-index : tie.Need-add-index
@@ -46,15 +45,15 @@ u16-at-requires : tie.Need-u16-at-requires
 u16-at-requires c κs = search needs
 
 returns-2 : tie.Need-returns-2
-unfolding entryMaps4
-returns-2 c = else-lt _ _ _ _ (omega arith) (if-lt _ _ _ _ (omega arith) (ap (ltb 0) (c .u16-at .ensures .is)))
+unfolding entry4
+returns-2 c = else-lt _ _ _ _ (omega arith) (if-lt _ _ _ _ (omega arith) (c .u16-at .ensures .is))
 
 returns-3 : tie.Need-returns-3
-unfolding entryMaps4
+unfolding entry4
 returns-3 c = else-lt _ _ _ _ (omega arith) (else-lt _ _ _ _ (omega arith) refl)
 
-pub entry-maps-spec : {M : Type 1} → statement M
-entry-maps-spec =
+pub entry-spec : {M : Type 1} → statement M
+entry-spec =
     tie.close
     (tie.spec
     returns

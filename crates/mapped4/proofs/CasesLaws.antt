@@ -1,0 +1,12 @@
+-- Every case holds, by computation.
+use mathlib.Core.Path.{_≡_, refl}
+use mathlib.Core.Bool.{true}
+use Rattle.laws.specs.Choice.{ifLt, ifEq}
+use Rattle.laws.specs.Search.{first}
+use Rattle.number.specs.BigEndian.{be, enc}
+use Rattle.mapped4.specs.Mapped4.{entry4, says4, lastSays, maps4}
+use Rattle.mapped4.specs.Cases.{cases, good}
+
+pub cases-good : good cases ≡ true
+unfolding maps4 says4 entry4 lastSays first be enc ifLt ifEq
+cases-good = refl
