@@ -1,1 +1,2 @@
 pub mod SiblingLaws
+pub mod CoveredLaws

@@ -4,31 +4,30 @@ use mathlib.Core.Path.{_≡_}
 use mathlib.Core.List.{List}
 use mathlib.Core.Bool.{Bool, true, false, not}
 use lib.Dec.{ltb, leb, eqb}
-use lib.ListN.{length}
+use lib.ListN.{length, getD}
 use Rattle.laws.specs.Choice.{both, either}
 use Rattle.laws.specs.Lists.{Rising}
-use Rattle.laws.specs.Search.{first}
+use Rattle.laws.specs.Search.{first, some}
 use Rattle.laws.specs.Select.{anyOf}
 use Rattle.source.specs.declared.Kind.{Kind}
 use Rattle.source.specs.declared.Kind.the-variants.{Format4, Format12, Format14, Unreadable}
 use Rattle.source.specs.Header.{recordCount}
 use Rattle.records.specs.Records.{leadsTo, isPair, leadsToFormat, Counted}
-use Rattle.listing.specs.Job.{Job}
 use Rattle.listing.specs.Listing.{maps}
 
 -- ---- the kept points it maps
 
--- a kept point at or above 0x10000 that the subtable of record k maps
-unfoldable pub reachesAbove : Job → ℕ → Bool
-reachesAbove j k = anyOf (λ c. both (maps j k c) (leb 0x10000 c)) (j .kept)
+-- in a source xs of n glyphs: a kept point at or above 0x10000 that the subtable of record k maps
+unfoldable pub reachesAbove : List ℕ → ℕ → List ℕ → ℕ → Bool
+reachesAbove xs n kept k = anyOf (λ c. both (maps xs n k c) (leb 0x10000 c)) kept
 
 abbrev pub differ : Bool → Bool → Bool
 differ true b = not b
 differ false b = b
 
 -- the subtables of records k and i map the same kept points
-unfoldable pub mapAlike : Job → ℕ → ℕ → Bool
-mapAlike j k i = not (anyOf (λ c. differ (maps j k c) (maps j i c)) (j .kept))
+unfoldable pub mapAlike : List ℕ → ℕ → List ℕ → ℕ → ℕ → Bool
+mapAlike xs n kept k i = not (anyOf (λ c. differ (maps xs n k c) (maps xs n i c)) kept)
 
 -- ---- the sibling
 
@@ -58,9 +57,36 @@ firstSibling xs k = first (isSibling xs k) (recordCount xs) 0
 
 -- ---- covered
 
--- all kept points that it maps lie below 0x10000, and the first sibling maps the same kept points
-unfoldable pub covered : Job → ℕ → Bool
-covered j k =
-    let i = firstSibling (j .source) k in
-    both (leadsToFormat 12 (j .source) k)
-    (both (ltb i (recordCount (j .source))) (both (not (reachesAbove j k)) (mapAlike j k i)))
+-- there is a sibling, all kept points that the subtable maps lie below 0x10000, and the first sibling maps the same kept points
+unfoldable pub siblingCovers : List ℕ → ℕ → List ℕ → ℕ → Bool
+siblingCovers xs n kept k =
+    let i = firstSibling xs k in
+    both (ltb i (recordCount xs)) (both (not (reachesAbove xs n kept k)) (mapAlike xs n kept k i))
+
+unfoldable pub covered : List ℕ → ℕ → List ℕ → ℕ → Bool
+covered xs n kept k = both (leadsToFormat 12 xs k) (siblingCovers xs n kept k)
+
+-- ---- the same asked of flags
+
+-- a point at or above 0x10000 whose flag is set
+abbrev pub isAbove : List ℕ → List ℕ → ℕ → Bool
+isAbove points flags i = both (ltb 0 (getD flags i 0)) (leb 0x10000 (getD points i 0))
+
+unfoldable pub flagAbove : List ℕ → List ℕ → Bool
+flagAbove points flags = some (isAbove points flags) (length points) 0
+
+-- two flags of the first n that are not the same
+abbrev pub isOther : List ℕ → List ℕ → ℕ → Bool
+isOther flags others i = not (eqb (getD flags i 0) (getD others i 0))
+
+unfoldable pub flagsDiffer : List ℕ → List ℕ → ℕ → Bool
+flagsDiffer flags others n = some (isOther flags others) n 0
+
+-- record k is one of m, the font has n glyphs, the kept points rise, and each has a flag in both rows
+pub record Rooms (xs : List ℕ) (m k n : ℕ) (kept flags others : List ℕ) : Type 0 where
+  pub counted : Counted xs m
+  pub below : k < m
+  pub glyphs : n < 65536
+  pub rising : Rising kept
+  pub beside : length kept ≤ length flags
+  pub again : length kept ≤ length others

@@ -3,9 +3,11 @@ use source::Kind;
 ghost use mathlib.Core.Path.{_≡_};
 ghost use Prim.Native.Nat.{_≤_, _<_};
 ghost use lib.ListN.{length};
+ghost use lib.Dec.{ltb, leb, eqb};
+ghost use mathlib.Core.Bool.{not};
 ghost use Rattle.laws.specs.Choice.{both};
 ghost use Rattle.records.specs.Records.{leadsTo, isPair, Placed, Counted};
-ghost use Rattle.covering.specs.Covered.{siblingPair, languageOf, speaks, isSibling, firstSibling};
+ghost use Rattle.covering.specs.Covered.{siblingPair, languageOf, speaks, isSibling, firstSibling, flagAbove, flagsDiffer, siblingCovers, covered, Rooms};
 
 fn language_of(kind: Kind) -> u32
     ensures { λ r. ⌜ r ≡ languageOf kind ⌝ }
@@ -100,4 +102,93 @@ fn first_sibling(s: &[u8], n: usize, k: usize) -> usize
         i += 1;
     }
     i
+}
+
+fn is_above(flag: u8, point: u32) -> bool
+    ensures { λ r. ⌜ r ≡ both (ltb 0 flag) (leb 0x10000 point) ⌝ }
+{
+    if 0 < flag {
+        return 0x10000 <= point;
+    }
+    false
+}
+
+// Whether some point at or above 0x10000 has its flag set.
+fn flag_above(points: &[u32], flags: &[u8]) -> bool
+    requires { ⌜ length (now points) ≤ length (now flags) ⌝ }
+    ensures { λ r. ⌜ r ≡ flagAbove (now (points .entry)) (now (flags .entry)) ⌝ }
+{
+    let mut i = 0;
+    while i < points.len() {
+        if is_above(flags[i], points[i]) {
+            return true;
+        }
+        i += 1;
+    }
+    false
+}
+
+fn is_other(flag: u8, other: u8) -> bool
+    ensures { λ r. ⌜ r ≡ not (eqb flag other) ⌝ }
+{
+    flag != other
+}
+
+// Whether two of the first n flags are not the same.
+fn flags_differ(flags: &[u8], others: &[u8], n: usize) -> bool
+    requires { ⌜ (n ≤ length (now flags)) × (n ≤ length (now others)) ⌝ }
+    ensures { λ r. ⌜ r ≡ flagsDiffer (now (flags .entry)) (now (others .entry)) n ⌝ }
+{
+    let mut i = 0;
+    while i < n {
+        if is_other(flags[i], others[i]) {
+            return true;
+        }
+        i += 1;
+    }
+    false
+}
+
+// Whether the first sibling of record k, of m, maps the same kept points, all below 0x10000.
+fn sibling_covers(
+    s: &[u8],
+    m: usize,
+    k: usize,
+    n: u32,
+    kept: &[u32],
+    flags: &mut [u8],
+    others: &mut [u8],
+) -> bool
+    requires { ⌜ Rooms (now s) m k n (now kept) (now flags) (now others) ⌝ }
+    ensures { λ r. ⌜ r ≡ siblingCovers (now (s .entry)) n (now (kept .entry)) k ⌝ }
+{
+    let i = first_sibling(s, m, k);
+    if m <= i {
+        return false;
+    }
+    listing::collect_record(s, k, n, kept, flags);
+    if flag_above(kept, flags) {
+        return false;
+    }
+    listing::collect_record(s, i, n, kept, others);
+    !flags_differ(flags, others, kept.len())
+}
+
+// Whether record k of m is covered in a font of n glyphs; flags and others are work room.
+pub fn can_drop_format12(
+    s: &[u8],
+    m: usize,
+    k: usize,
+    n: u32,
+    kept: &[u32],
+    flags: &mut [u8],
+    others: &mut [u8],
+) -> bool
+    requires { ⌜ Rooms (now s) m k n (now kept) (now flags) (now others) ⌝ }
+    ensures { λ r. ⌜ r ≡ covered (now (s .entry)) n (now (kept .entry)) k ⌝ }
+{
+    if records::leads_to_format(s, k, 12) {
+        return sibling_covers(s, m, k, n, kept, flags, others);
+    }
+    false
 }

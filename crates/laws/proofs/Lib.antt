@@ -19,3 +19,4 @@ pub mod LookingLaws
 pub mod FirstLaws
 pub mod LengthLaws
 pub mod FrontLaws
+pub mod AnyLaws

@@ -13,13 +13,16 @@ use Rattle.laws.proofs.ChoiceLaws.{by-pick}
 use Rattle.number.specs.BigEndian.{Bytes}
 use Rattle.source.specs.declared.Kind.{Kind}
 use Rattle.source.specs.declared.Kind.the-variants.{Format4, Format12, Format14, Unreadable}
+use Rattle.source.specs.declared.EncodingRecord.{EncodingRecord}
+use Rattle.source.specs.Header.{recordOf}
 use Rattle.source.specs.Kind.{kindAt}
+use Rattle.records.specs.Records.{leadsTo}
 use Rattle.source.proofs.KindLaws.{room4, room12}
 use Rattle.marks.specs.Marks.{flagged, kept, Flags}
 use Rattle.marks.proofs.MarksLaws.{flagged-none, kept-sets}
 use Rattle.mapped4.specs.Mapped4.{maps4, Room4}
 use Rattle.mapped12.specs.Mapped12.{maps12, Room12}
-use Rattle.listing.specs.Listing.{mapsAs, Asked, Columns}
+use Rattle.listing.specs.Listing.{mapsAs, maps, Asked, Beside, Columns}
 
 -- ---- by kind
 
@@ -46,6 +49,18 @@ module _ (kind : Kind) (xs : List ℕ) (at n : ℕ) (ps fs gs : List ℕ) where
 
   pub flags-none : kind ≡ Unreadable → gs ≡ sets fs 0 (replicate (length ps) 0) → gs ≡ sets fs 0 (flagged (mapsAs kind xs at n) ps)
   flags-none e h = rw (e, flagged-none ps) h
+
+-- ---- by record
+
+module _ (xs : List ℕ) (k n : ℕ) (r : EncodingRecord) (kind : Kind) (ps fs : List ℕ) (q : r ≡ recordOf xs k) (h : kind ≡ kindAt xs (r .offset)) where
+  pub asked-record : Beside n ps fs → Asked kind xs (r .offset) n ps fs
+  asked-record b = record { found = h; glyphs = b .glyphs; flagged = b .flagged }
+
+  pub flags-record : (gs : List ℕ) → gs ≡ sets fs 0 (flagged (mapsAs kind xs (r .offset) n) ps) → gs ≡ sets fs 0 (flagged (maps xs n k) ps)
+  unfolding maps leadsTo
+  flags-record gs e = rw (h, q) at e
+
+pub ruleset by-record = (asked-record, flags-record)
 
 pub ruleset by-kind = (flags4, flags12, flags14, flags-none)
 

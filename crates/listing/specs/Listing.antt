@@ -23,16 +23,22 @@ mapsAs (Format12 language groups len) xs at n c = maps12 xs at groups n c
 mapsAs (Format14 selectors len) xs at n c = false
 mapsAs Unreadable xs at n c = false
 
-unfoldable pub maps : Job → ℕ → ℕ → Bool
-maps j k c = mapsAs (leadsTo (j .source) k) (j .source) (offsetOf (j .source) k) (glyphCount j) c
+-- the subtable of record k
+unfoldable pub maps : List ℕ → ℕ → ℕ → ℕ → Bool
+maps xs n k c = mapsAs (leadsTo xs k) xs (offsetOf xs k) n c
 
--- the listed pairs that the subtable of record k maps
+-- the listed pairs that it maps
 unfoldable pub listed : Job → ℕ → List Pair
-listed j k = select (λ p. maps j k (p .0)) (pairs (j .codes) (j .glyphs))
+listed j k = select (λ p. maps (j .source) (glyphCount j) k (p .0)) (pairs (j .codes) (j .glyphs))
 
 -- ---- what the functions ask for and leave
 
--- what stands at `at` is of that kind, the points rise, each has a flag, and the glyph count is that of a font
+-- the points rise, each has a flag, and the glyph count is that of a font
+pub record Beside (n : ℕ) (points flags : List ℕ) : Type 0 where
+  pub glyphs : n < 65536
+  pub flagged : Flags points flags
+
+-- and what stands at `at` is of that kind
 pub record Asked (kind : Kind) (xs : List ℕ) (at n : ℕ) (points flags : List ℕ) : Type 0 where
   pub found : kind ≡ kindAt xs at
   pub glyphs : n < 65536

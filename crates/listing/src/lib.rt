@@ -4,8 +4,9 @@ ghost use mathlib.Core.Path.{_≡_};
 ghost use lib.ListN.{length};
 ghost use lib.Seq.{sets};
 ghost use Rattle.laws.specs.Lists.{keep};
+ghost use Rattle.records.specs.Records.{Placed};
 ghost use Rattle.marks.specs.Marks.{flagged};
-ghost use Rattle.listing.specs.Listing.{mapsAs, Asked, Columns};
+ghost use Rattle.listing.specs.Listing.{mapsAs, maps, Asked, Beside, Columns};
 
 // Sets the flag of each point to whether the subtable of that kind maps it.
 pub fn collect_unicodes(s: &[u8], at: usize, kind: Kind, n: u32, points: &[u32], flags: &mut [u8])
@@ -29,6 +30,17 @@ pub fn collect_unicodes(s: &[u8], at: usize, kind: Kind, n: u32, points: &[u32],
         } => marks::clear(flags, points.len()),
         Kind::Unreadable => marks::clear(flags, points.len()),
     }
+}
+
+// The same for the subtable that record k leads to.
+pub fn collect_record(s: &[u8], k: usize, n: u32, points: &[u32], flags: &mut [u8])
+    requires { ⌜ Placed (now s) k ⌝ }
+    requires { ⌜ Beside n (now points) (now flags) ⌝ }
+    ensures { λ _. ⌜ now (flags .exit) ≡ sets (now (flags .entry)) 0 (flagged (maps (now (s .entry)) n k) (now (points .entry))) ⌝ }
+{
+    let record = records::encoding_record(s, k);
+    let at = record.offset;
+    collect_unicodes(s, at, source::kind_at(s, at), n, points, flags);
 }
 
 // Copies the pairs whose code points the subtable maps to the front of the lent columns; how many.
