@@ -9,7 +9,8 @@ use lib.Seq.{sets}
 use Rattle.laws.specs.Choice.{pick}
 use Rattle.laws.specs.Lists.{Pair, pairs, keep}
 use Rattle.laws.specs.Select.{select}
-use Rattle.laws.proofs.ChoiceLaws.{by-pick}
+use Rattle.laws.proofs.PairsLaws.{firsts-pairs, seconds-pairs}
+use Rattle.laws.proofs.LengthLaws.{length-map}
 use Rattle.number.specs.BigEndian.{Bytes}
 use Rattle.source.specs.declared.Kind.{Kind}
 use Rattle.source.specs.declared.Kind.the-variants.{Format4, Format12, Format14, Unreadable}
@@ -22,7 +23,7 @@ use Rattle.marks.specs.Marks.{flagged, kept, Flags}
 use Rattle.marks.proofs.MarksLaws.{flagged-none, kept-sets}
 use Rattle.mapped4.specs.Mapped4.{maps4, Room4}
 use Rattle.mapped12.specs.Mapped12.{maps12, Room12}
-use Rattle.listing.specs.Listing.{mapsAs, maps, Asked, Beside, Columns}
+use Rattle.listing.specs.Listing.{mapsAs, maps, listed, codesOf, glyphsOf, Asked, Beside, Columns}
 
 -- ---- by kind
 
@@ -76,6 +77,38 @@ keep-pairs p (c ∷ cs) (g ∷ gs) e = go (p c) (keep p cs cs) (keep p cs gs) (k
     go : (t : Bool) (k l : List ℕ) {r : List Pair} → pairs k l ≡ r → pairs (pick t (c ∷ k) k) (pick t (g ∷ l) l) ≡ pick t ((c, g) ∷ r) r
     go true k l h = ap (λ (q : List Pair). (c, g) ∷ q) h
     go false k l h = h
+
+length-keep : (p : ℕ → Bool) (cs gs : List ℕ) → length cs ≡ length gs → length (keep p cs cs) ≡ length (keep p cs gs)
+length-keep p [] gs e = refl
+length-keep p (c ∷ cs) [] e = absurd (omega arith)
+length-keep p (c ∷ cs) (g ∷ gs) e = go (p c) (keep p cs cs) (keep p cs gs) (length-keep p cs gs (omega arith))
+  where
+    go : (t : Bool) (k l : List ℕ) → length k ≡ length l → length (pick t (c ∷ k) k) ≡ length (pick t (g ∷ l) l)
+    go true k l h = ap suc h
+    go false k l h = h
+
+-- the two columns of the pairs that are listed
+module _ (xs : List ℕ) (k n : ℕ) (r : EncodingRecord) (kind : Kind) (cs gs fs tocs togs : List ℕ)
+    (q : r ≡ recordOf xs k) (h : kind ≡ kindAt xs (r .offset)) (c : Columns cs gs tocs togs) where
+  abbrev passes : ℕ → Bool
+  passes = mapsAs kind xs (r .offset) n
+
+  columns : pairs (keep passes cs cs) (keep passes cs gs) ≡ listed xs n cs gs k
+  unfolding listed maps leadsTo
+  columns = keep-pairs passes cs gs (c .even) ∙ rw (h, q)
+
+  pub listed-count : (m : ℕ) → m ≡ length (keep passes cs cs) → m ≡ length (listed xs n cs gs k)
+  listed-count m e =
+      e ∙ ap length (sym (firsts-pairs (keep passes cs cs) (keep passes cs gs) (length-keep passes cs gs (c .even))))
+      ∙ length-map (λ (p : Pair). p .0) (pairs (keep passes cs cs) (keep passes cs gs)) ∙ ap length columns
+
+  pub listed-codes : (out : List ℕ) → out ≡ sets tocs 0 (keep passes cs cs) → out ≡ sets tocs 0 (codesOf (listed xs n cs gs k))
+  listed-codes out e = e ∙ ap (sets tocs 0) (sym (firsts-pairs (keep passes cs cs) (keep passes cs gs) (length-keep passes cs gs (c .even))) ∙ ap codesOf columns)
+
+  pub listed-glyphs : (out : List ℕ) → out ≡ sets togs 0 (keep passes cs gs) → out ≡ sets togs 0 (glyphsOf (listed xs n cs gs k))
+  listed-glyphs out e = e ∙ ap (sets togs 0) (sym (seconds-pairs (keep passes cs cs) (keep passes cs gs) (length-keep passes cs gs (c .even))) ∙ ap glyphsOf columns)
+
+pub ruleset by-listed = (listed-count, listed-codes, listed-glyphs)
 
 -- what is copied by the flags that say what the subtable maps; fs are the flags before, ms the flags then
 module _ (kind : Kind) (xs : List ℕ) (at n : ℕ) (cs gs fs ms tocs togs : List ℕ) where

@@ -2,7 +2,7 @@
 use Prim.Native.Nat.{ℕ, _<_, _≤_}
 use lib.ListN.{length}
 use mathlib.Core.Path.{_≡_}
-use mathlib.Core.List.{List}
+use mathlib.Core.List.{List, map}
 use mathlib.Core.Bool.{Bool, false}
 use Rattle.laws.specs.Lists.{Pair, pairs}
 use Rattle.laws.specs.Select.{select}
@@ -14,7 +14,6 @@ use Rattle.records.specs.Records.{leadsTo}
 use Rattle.marks.specs.Marks.{Flags}
 use Rattle.mapped4.specs.Mapped4.{maps4}
 use Rattle.mapped12.specs.Mapped12.{maps12}
-use Rattle.listing.specs.Job.{Job, glyphCount}
 
 -- the subtable of a kind that stands at `at`, in a font of n glyphs
 abbrev pub mapsAs : Kind → List ℕ → ℕ → ℕ → ℕ → Bool
@@ -27,9 +26,15 @@ mapsAs Unreadable xs at n c = false
 unfoldable pub maps : List ℕ → ℕ → ℕ → ℕ → Bool
 maps xs n k c = mapsAs (leadsTo xs k) xs (offsetOf xs k) n c
 
--- the listed pairs that it maps
-unfoldable pub listed : Job → ℕ → List Pair
-listed j k = select (λ p. maps (j .source) (glyphCount j) k (p .0)) (pairs (j .codes) (j .glyphs))
+-- the pairs of code points and glyphs, side by side, that it maps
+unfoldable pub listed : List ℕ → ℕ → List ℕ → List ℕ → ℕ → List Pair
+listed xs n codes glyphs k = select (λ p. maps xs n k (p .0)) (pairs codes glyphs)
+
+abbrev pub codesOf : List Pair → List ℕ
+codesOf ps = map (λ (p : Pair). p .0) ps
+
+abbrev pub glyphsOf : List Pair → List ℕ
+glyphsOf ps = map (λ (p : Pair). p .1) ps
 
 -- ---- what the functions ask for and leave
 

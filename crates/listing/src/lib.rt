@@ -6,7 +6,7 @@ ghost use lib.Seq.{sets};
 ghost use Rattle.laws.specs.Lists.{keep};
 ghost use Rattle.records.specs.Records.{Placed};
 ghost use Rattle.marks.specs.Marks.{flagged};
-ghost use Rattle.listing.specs.Listing.{mapsAs, maps, Asked, Beside, Columns};
+ghost use Rattle.listing.specs.Listing.{mapsAs, maps, listed, codesOf, glyphsOf, Asked, Beside, Columns};
 
 // Sets the flag of each point to whether the subtable of that kind maps it.
 pub fn collect_unicodes(s: &[u8], at: usize, kind: Kind, n: u32, points: &[u32], flags: &mut [u8])
@@ -64,4 +64,37 @@ pub fn list_pairs(
     collect_unicodes(s, at, kind, n, codes, flags);
     marks::copy_marked_glyphs(flags, glyphs, toglyphs);
     marks::copy_marked(flags, codes, tocodes)
+}
+
+// The same for the subtable that record k leads to.
+pub fn list_record(
+    s: &[u8],
+    k: usize,
+    n: u32,
+    codes: &[u32],
+    glyphs: &[u16],
+    flags: &mut [u8],
+    tocodes: &mut [u32],
+    toglyphs: &mut [u16],
+) -> usize
+    requires { ⌜ Placed (now s) k ⌝ }
+    requires { ⌜ Beside n (now codes) (now flags) ⌝ }
+    requires { ⌜ Columns (now codes) (now glyphs) (now tocodes) (now toglyphs) ⌝ }
+    ensures { λ r. ⌜ r ≡ length (listed (now (s .entry)) n (now (codes .entry)) (now (glyphs .entry)) k) ⌝ }
+    ensures { λ _. ⌜ now (tocodes .exit) ≡ sets (now (tocodes .entry)) 0 (codesOf (listed (now (s .entry)) n (now (codes .entry)) (now (glyphs .entry)) k)) ⌝ }
+    ensures { λ _. ⌜ now (toglyphs .exit) ≡ sets (now (toglyphs .entry)) 0 (glyphsOf (listed (now (s .entry)) n (now (codes .entry)) (now (glyphs .entry)) k)) ⌝ }
+{
+    let record = records::encoding_record(s, k);
+    let at = record.offset;
+    list_pairs(
+        s,
+        at,
+        source::kind_at(s, at),
+        n,
+        codes,
+        glyphs,
+        flags,
+        tocodes,
+        toglyphs,
+    )
 }

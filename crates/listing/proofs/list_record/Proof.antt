@@ -1,0 +1,37 @@
+use Rattle.listing.proofs.ListingLaws.{by-listed}
+use borrow.Author.Needs.{needs}
+use Rattle.listing.proofs.list_record.Statement.{statement}
+use Rattle.listing.proofs.list_record.Tie as tie
+
+encoding-record-requires : tie.Need-encoding-record-requires
+encoding-record-requires c κs = search needs
+
+kind-at-requires : tie.Need-kind-at-requires
+kind-at-requires c κs = search needs
+
+list-pairs-requires : tie.Need-list-pairs-requires
+list-pairs-requires c κs = search needs
+
+same-length : tie.Need-same-length
+same-length c = search needs
+
+same-length-2 : tie.Need-same-length-2
+same-length-2 c = search needs
+
+same-length-3 : tie.Need-same-length-3
+same-length-3 c = search needs
+
+returns : tie.Need-returns
+returns c = (search by-listed, (search by-listed, search by-listed))
+
+pub list-record-spec : {M : Type 1} → statement M
+list-record-spec =
+    tie.close
+    (tie.spec
+    encoding-record-requires
+    kind-at-requires
+    list-pairs-requires
+    same-length
+    same-length-2
+    same-length-3
+    returns)
