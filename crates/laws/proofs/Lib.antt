@@ -4,3 +4,4 @@ pub mod SetsLaws
 pub mod RisingLaws
 pub mod PiecesLaws
 pub mod RunsLaws
+pub mod BranchLaws

@@ -4,19 +4,13 @@ use native.Mathlib.Omega.{arith}
 use borrow.Author.Needs.{needs}
 use Rattle.format4.proofs.entries_of.Statement.{statement}
 use Rattle.format4.proofs.entries_of.Tie as tie
-use Rattle.format4.proofs.entries_of.Reads as reads
-use Rattle.format4.proofs.entries_of.Lts as lts
-use Rattle.format4.proofs.points_of.Reads as points-of-reads
 
--- src/lib.rt:39:9
 points-of-requires : tie.Need-points-of-requires
 points-of-requires c κs = search needs
 
--- src/lib.rt:39:9
 returns : tie.Need-returns
 returns c = let e = c .points-of .ensures in (simp (eq-eqb _ _ (c .before .if1 .taken)) (e .0), e .1)
 
--- src/lib.rt:35:1
 returns-2 : tie.Need-returns-2
 returns-2 c = (simp (ne-eqb _ _ (c .if1 .left)), omega arith)
 

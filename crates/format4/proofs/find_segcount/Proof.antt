@@ -1,23 +1,14 @@
 -- Counting what each pair commits, and then what is left and the closing segment, counts the whole cut.
 use Prim.Native.Nat.{_-_}
-use denote.Ref.{now}
-use mathlib.Core.Bool.{Bool}
-use mathlib.Core.Path.{_∙_, sym, ap}
 use native.Mathlib.Omega.{arith}
 use lib.ListN.{length}
-use Rattle.ranges.specs.Steps.{closing}
-use Rattle.format4.specs.Size.{counted}
-use Rattle.format4.proofs.CountLaws.{Counting, counting-start, counting-on, counting-closed, counting-open, counting}
+use Rattle.format4.proofs.CountLaws.{Counting, counting-start, counting-on, counting-closed, counting-open}
 use borrow.Author.Needs.{needs}
 use Rattle.format4.proofs.find_segcount.Statement.{statement}
 use Rattle.format4.proofs.find_segcount.Tie as tie
-use Rattle.format4.proofs.find_segcount.Reads as reads
-use Rattle.format4.proofs.find_segcount.Lts as lts
 use Rattle.format4.proofs.RangeCounter.absorb.Reads as RangeCounter-absorb-reads
 use Rattle.format4.proofs.RangeCounter.new.Reads as RangeCounter-new-reads
-use Rattle.format4.proofs.RangeCounter.write_one_range.Reads as write-one-range-reads
 use Rattle.ranges.proofs.RangeState.absorb.Reads as RangeState-absorb-reads
-use Rattle.ranges.proofs.RangeState.finish.Reads as finish-reads
 use Rattle.ranges.proofs.RangeState.new.Reads as RangeState-new-reads
 
 abbrev Inv-loop : tie.InvT-loop
@@ -26,77 +17,59 @@ Inv-loop codes glyphs state₀ n₀ i₀ state n i = Counting codes glyphs state
 abbrev μ-loop : tie.MeasureT-loop
 μ-loop codes glyphs state₀ n₀ i₀ state n i = length codes - i
 
--- src/lib.rt:79:9
 new-requires : tie.Need-new-requires Inv-loop μ-loop
 new-requires c κs = search needs
 
--- src/lib.rt:80:9
 new-requires-2 : tie.Need-new-requires-2 Inv-loop μ-loop
 new-requires-2 c κs = search needs
 
--- src/lib.rt:82:5
 loop-holds : tie.Need-loop-holds Inv-loop μ-loop
 loop-holds c = counting-start _ _ _ _ (c .before .new .ensures) (c .new2 .ensures)
 
--- src/lib.rt:83:30
 mul-absorb : tie.Need-mul-absorb Inv-loop μ-loop
 mul-absorb c = search needs
 
--- src/lib.rt:83:30
 shared-slice-read-absorb : tie.Need-shared-slice-read-absorb Inv-loop μ-loop
 shared-slice-read-absorb c = search needs
 
--- src/lib.rt:83:30
 cast-absorb : tie.Need-cast-absorb Inv-loop μ-loop
 cast-absorb c = record { fits = c .before .before .before .before .before .before .before .pre .low (c .before .before .loop .i) }
 
--- src/lib.rt:83:47
 mul-absorb-2 : tie.Need-mul-absorb-2 Inv-loop μ-loop
 mul-absorb-2 c = search needs
 
--- src/lib.rt:83:47
 shared-slice-read-absorb-2 : tie.Need-shared-slice-read-absorb-2 Inv-loop μ-loop
 shared-slice-read-absorb-2 c = omega (arith, c .before .before .before .before .before .before .before .before .pre .even)
 
--- src/lib.rt:83:13
 absorb-requires : tie.Need-absorb-requires Inv-loop μ-loop
 absorb-requires c κs = search needs
 
--- src/lib.rt:86:9
 absorb-requires-2 : tie.Need-absorb-requires-2 Inv-loop μ-loop
 absorb-requires-2 c κs = search needs
 
--- src/lib.rt:88:9
 add-i : tie.Need-add-i Inv-loop μ-loop
 add-i c = search needs
 
--- src/lib.rt:82:5
 loop-less : tie.Need-loop-less Inv-loop μ-loop
 loop-less c = search needs
 
--- src/lib.rt:82:5
 loop-again : tie.Need-loop-again Inv-loop μ-loop
 loop-again c = search counting-on
 
--- src/lib.rt:90:9
 finish-requires : tie.Need-finish-requires Inv-loop μ-loop
 finish-requires c κs = search needs
 
--- src/lib.rt:92:9
 absorb-requires-3 : tie.Need-absorb-requires-3 Inv-loop μ-loop
 absorb-requires-3 c κs = search needs
 
--- src/lib.rt:94:9
 write-one-range-requires : tie.Need-write-one-range-requires Inv-loop μ-loop
 write-one-range-requires c κs = search needs
 
--- src/lib.rt:94:9
 returns : tie.Need-returns Inv-loop μ-loop
 returns c =
     counting-closed _ _ _ _ _ _ _ (c .before .before .before .before .before .before .before .before .before .before .pre) (c .before .before .before .before .before .loop .inv) (c .before .before .before .before .loop-test .left) (c .before .before .before .finish .ensures) (c .before .before .absorb3 .ensures)
     _ (c .before .if1 .taken) (c .write-one-range .ensures)
 
--- src/lib.rt:75:1
 returns-2 : tie.Need-returns-2 Inv-loop μ-loop
 returns-2 c = search counting-open
 

@@ -3,23 +3,16 @@ use native.Mathlib.Omega.{arith}
 use borrow.Author.Needs.{needs}
 use Rattle.format4.proofs.RangeCounter.write_one_range.Statement.{statement}
 use Rattle.format4.proofs.RangeCounter.write_one_range.Tie as tie
-use Rattle.format4.proofs.RangeCounter.write_one_range.Reads as reads
-use Rattle.format4.proofs.RangeCounter.write_one_range.Lts as lts
-use Rattle.format4.proofs.entries_of.Reads as entries-of-reads
 
--- src/lib.rt:50:23
 add-t3 : tie.Need-add-t3
 add-t3 c = search needs
 
--- src/lib.rt:51:35
 entries-of-requires : tie.Need-entries-of-requires
 entries-of-requires c κs = search needs
 
--- src/lib.rt:51:21
 add-t5 : tie.Need-add-t5
 add-t5 c = search needs
 
--- src/lib.rt:45:5
 returns : tie.Need-returns
 returns c = let e = c .before .entries-of .ensures in (simp (e .0), omega arith)
 
