@@ -1,3 +1,4 @@
 pub mod CutLaws
 pub mod Format4Laws
 pub mod CountLaws
+pub mod LowLaws

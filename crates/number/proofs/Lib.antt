@@ -1,2 +1,3 @@
 pub mod BigEndianLaws
 pub mod RowLaws
+pub mod StandsLaws
