@@ -16,7 +16,7 @@ use Rattle.ranges.specs.declared.Absorbed.{Absorbed}
 use Rattle.ranges.specs.declared.Finished.{Finished}
 use Rattle.ranges.specs.declared.RangeState.{RangeState}
 use Rattle.ranges.specs.Steps.{seg, idle, begun, grown, turned, costOf, pays, commit, whole, splits, earlier, theRun, absorbed, step, finish, toList, closing, cutFrom}
-use Rattle.format4.specs.Format4.{segmentsOf, arrayFrom, points}
+use Rattle.format4.specs.Format4.{segmentsOf, arrayFrom, arrayOf, glyphOf, points}
 use Rattle.format4.proofs.CutLaws.{segments-cut}
 
 abbrev pub LowPairs : List Pair → Type 0
@@ -95,3 +95,48 @@ pub column-low : (f : Segment → ℕ) → ((x : Segment) → LowSegment x → f
 column-low f h [] l k = omega arith
 column-low f h (x ∷ xs) l zero = h x (l .0)
 column-low f h (x ∷ xs) l (suc k) = column-low f h xs (l .1) k
+
+abbrev LowList : List ℕ → Type 0
+LowList [] = Unit {0}
+LowList (g ∷ gs) = (g < 65536) × LowList gs
+
+low-getD : (gs : List ℕ) → LowList gs → (k : ℕ) → getD gs k 0 < 65536
+low-getD [] l k = omega arith
+low-getD (g ∷ gs) l zero = l .0
+low-getD (g ∷ gs) l (suc k) = low-getD gs (l .1) k
+
+low-append : (a b : List ℕ) → LowList a → LowList b → LowList (a ++ b)
+low-append [] b l m = m
+low-append (x ∷ a) b l m = (l .0, low-append a b (l .1) m)
+
+low-take : (n : ℕ) (gs : List ℕ) → LowList gs → LowList (take n gs)
+low-take zero gs l = tt
+low-take (suc n) [] l = tt
+low-take (suc n) (g ∷ gs) l = (l .0, low-take n gs (l .1))
+
+low-drop : (n : ℕ) (gs : List ℕ) → LowList gs → LowList (drop n gs)
+low-drop zero gs l = l
+low-drop (suc n) [] l = tt
+low-drop (suc n) (g ∷ gs) l = low-drop n gs (l .1)
+
+low-array : (gs : List ℕ) (ss : List Segment) → LowList gs → LowList (arrayFrom gs ss)
+unfolding arrayFrom
+low-array gs [] l = tt
+low-array gs (x ∷ xs) l =
+    let rest = low-array (drop (points x) gs) xs (low-drop (points x) gs l) in
+    by-pick LowList (eqb (x .delta) 0) (take (points x) gs ++ arrayFrom (drop (points x) gs) xs) (arrayFrom (drop (points x) gs) xs)
+    (λ _. low-append (take (points x) gs) (arrayFrom (drop (points x) gs) xs) (low-take (points x) gs l) rest) (λ _. rest)
+
+low-glyphs : (ps : List Pair) → LowPairs ps → LowList (map glyphOf ps)
+low-glyphs [] l = tt
+low-glyphs (p ∷ ps) l = (l .1, low-glyphs ps (l .2))
+
+pub array-low : (ps : List Pair) → LowPairs ps → (k : ℕ) → getD (arrayOf ps) k 0 < 65536
+array-low ps l = low-getD (arrayOf ps) (low-array (map glyphOf ps) (segmentsOf ps) (low-glyphs ps l))
+
+-- ---- the pairs of two columns
+
+pub columns-low : (cs gs : List ℕ) → ((k : ℕ) → getD cs k 0 < 65536) → ((k : ℕ) → getD gs k 0 < 65536) → LowPairs (pairs cs gs)
+columns-low [] gs c g = tt
+columns-low (x ∷ cs) [] c g = tt
+columns-low (x ∷ cs) (y ∷ gs) c g = (c 0, g 0, columns-low cs gs (λ k. c (suc k)) (λ k. g (suc k)))
