@@ -6,7 +6,8 @@ use mathlib.Core.Bool.{Bool, true, false}
 use native.Mathlib.Nat.{add-assoc, add-zero, zero-add}
 use native.Mathlib.Omega.{arith}
 use lib.Dec.{leb}
-use borrow.Author.Tests.{le-leb, lt-leb}
+use borrow.Author.Tests.{le-leb, lt-leb, leb-true}
+use Rattle.laws.proofs.ChoiceLaws.{false-true}
 use Rattle.laws.specs.Choice.{pick}
 use lib.ListN.{length, getD, drop, length-append}
 use Rattle.laws.specs.Lists.{Pair, pairs}
@@ -18,9 +19,10 @@ use Rattle.ranges.specs.Steps.{seg, entriesOf, idle, step, finish, toList, clos
 use Rattle.ranges.proofs.StepsLaws.{entries-append, sink-step, sink-end}
 use Rattle.format4.specs.declared.RangeCounter.{RangeCounter}
 use Rattle.format4.specs.Format4.{segmentsOf}
+use Rattle.format4.specs.declared.Size.{Size}
 use Rattle.format4.specs.declared.Size.the-variants.{Empty, TooLong, Fits}
 use Rattle.format4.specs.Size.{Columns, Below, Counts, counter, counted, countOf, lengthOf, sizeOf}
-use Rattle.format4.proofs.CutLaws.{segments-cut}
+use Rattle.format4.proofs.CutLaws.{segments-cut, segments-some}
 use Rattle.format4.proofs.Format4Laws.{length-arrayOf}
 
 pub counted-none : (n : RangeCounter) → counted n [] ≡ n
@@ -100,3 +102,33 @@ module _ (cs gs : List ℕ) (n : RangeCounter) (l : ℕ) (k : Columns cs gs) (h 
   size-long b = rw (lt-leb (lengthOf (countOf (pairs cs gs))) 65535 (omega (arith, same))) at (size-some cs gs (k .even) h)
 
 pub ruleset sizing = (size-empty, size-fits, size-long)
+
+-- what a size that fits tells
+pub record Told (ps : List Pair) (n : RangeCounter) : Type 0 where
+  pub is : n ≡ countOf ps
+  pub short : lengthOf n ≤ 65535
+  pub some : 1 ≤ n .segments
+
+abbrev counterOf : Size → RangeCounter
+counterOf Empty = counter 0 0
+counterOf TooLong = counter 0 0
+counterOf (Fits n) = n
+
+abbrev fitting : Size → Bool
+fitting Empty = false
+fitting TooLong = false
+fitting (Fits n) = true
+
+pub fits-tells : (ps : List Pair) (n : RangeCounter) → sizeOf ps ≡ Fits n → Told ps n
+unfolding sizeOf
+fits-tells [] n e = absurd (false-true (ap fitting e))
+fits-tells (p ∷ ps) n e = go (leb (lengthOf m) 65535) refl e
+  where
+    m : RangeCounter
+    m = countOf (p ∷ ps)
+
+    go : (t : Bool) → leb (lengthOf m) 65535 ≡ t → pick t (Fits m) TooLong ≡ Fits n → Told (p ∷ ps) n
+    go true q r =
+        let z : n ≡ m = sym (ap counterOf r) in
+        record { is = z; short = rw z (leb-true (lengthOf m) 65535 q); some = rw z (segments-some (p ∷ ps) (omega arith)) }
+    go false q r = absurd (false-true (ap fitting r))

@@ -18,6 +18,7 @@ use Rattle.ranges.specs.declared.Finished.{Finished}
 use Rattle.ranges.specs.declared.RangeState.{RangeState}
 use Rattle.ranges.specs.Steps.{seg, idle, begun, grown, turned, costOf, pays, commit, whole, splits, earlier, theRun, absorbed, step, finish, toList, closing, cutFrom, entriesOf, entries}
 use Rattle.format4.specs.Format4.{points, segmentsOf}
+use Rattle.format4.specs.Share.{Fed}
 
 -- k pairs are in a running range and not committed
 record Pending (s : RangeState) (k : ℕ) : Type 0 where
@@ -97,11 +98,6 @@ module _ (P : ℕ → List Segment → Type 0) (close : (t : Bool) → P 0 (clos
 
 -- ---- the glyphs
 
--- k glyphs are enough for the segments of delta 0, and no segment but the closing one takes more
-abbrev pub Fed : ℕ → List Segment → Type 0
-Fed k [] = Unit {0}
-Fed k (x ∷ xs) = (entriesOf x ≤ k) × (points x ≤ k + 1) × Fed (k - points x) xs
-
 pub entries-points : (x : Segment) → entriesOf x ≤ points x
 entries-points x = by-pick (λ (n : ℕ). n ≤ points x) (eqb (x .delta) 0) (points x) 0 (λ _. omega arith) (λ _. omega arith)
 
@@ -133,3 +129,6 @@ segments-few = segments-share (λ k ss. length ss ≤ k + 1) few before
 
     before : (x : Segment) (k m : ℕ) (rest : List Segment) → points x ≡ k → 1 ≤ k → length rest ≤ m + 1 → length (x ∷ rest) ≤ k + m + 1
     before x k m rest e h l = omega arith
+
+pub segments-some : (ps : List Pair) → 1 ≤ length ps → 1 ≤ length (segmentsOf ps)
+segments-some = segments-share (λ k ss. 1 ≤ k → 1 ≤ length ss) (λ t h. absurd (omega arith)) (λ x k m rest e h f l. omega arith)

@@ -13,7 +13,8 @@ use Rattle.number.proofs.RowLaws.{length-encs}
 use Rattle.ranges.specs.declared.Segment.{Segment}
 use Rattle.ranges.specs.Steps.{entriesOf, entries}
 use Rattle.format4.specs.Format4.{points, segmentsOf, arrayFrom, arrayOf, glyphOf, offsetsFrom, lengthWith, header, endOf, startOf, deltaOf, columns, numbers, format4}
-use Rattle.format4.proofs.CutLaws.{Fed, segments-fed, entries-fed, segments-few}
+use Rattle.format4.specs.Share.{Fed}
+use Rattle.format4.proofs.CutLaws.{segments-fed, entries-fed, segments-few}
 
 pub length-offsets : (before : ℕ) (ss : List Segment) → length (offsetsFrom before ss) ≡ length ss
 unfolding offsetsFrom

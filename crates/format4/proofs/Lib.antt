@@ -1,3 +1,6 @@
 pub mod CutLaws
 pub mod Format4Laws
 pub mod CountLaws
+pub mod LowLaws
+pub mod Border
+pub mod BytesLaws

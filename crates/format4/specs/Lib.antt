@@ -1,2 +1,3 @@
 pub mod Format4
 pub mod Size
+pub mod Share

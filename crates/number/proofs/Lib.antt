@@ -1,3 +1,4 @@
 pub mod BigEndianLaws
 pub mod RowLaws
 pub mod ColumnsLaws
+pub mod StandsLaws

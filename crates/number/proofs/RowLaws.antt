@@ -6,6 +6,7 @@ use native.Mathlib.Nat.{mod-eq-of-lt, mul-suc, mul-zero}
 use native.Mathlib.Omega.{arith}
 use lib.ListN.{length, getD, length-append}
 use lib.Seq.{sets}
+use Rattle.laws.proofs.SetsLaws.{sets-append}
 use Rattle.number.specs.BigEndian.{be, enc, put}
 use Rattle.number.specs.Row.{encs}
 use Rattle.number.proofs.BigEndianLaws.{pow-pos, length-enc, be-enc, be-front, be-back, be-ext, put-left}
@@ -46,3 +47,18 @@ module _ (w : ℕ) where
   pub put-one : (l : List ℕ) (i v : ℕ) → put w l i v ≡ sets l i (encs w (v ∷ []))
   unfolding encs
   put-one l i v = put-encs l i v []
+
+  -- a row right behind another
+  pub encs-then : (us vs l : List ℕ) (i j : ℕ) → j ≡ i + w * length us → sets (sets l i (encs w us)) j (encs w vs) ≡ sets l i (encs w (us ++ vs))
+  encs-then us vs l i j e = rw (e, ← length-encs us) (sets-append l i (encs w us) (encs w vs) ∙ ap (sets l i) (sym (encs-append us vs)))
+
+-- a straight line of writers, one step a call: a record, so that a step need not name what stands in it
+pub record Rowed (w : ℕ) (l : List ℕ) (i : ℕ) (vs out : List ℕ) : Type 0 where
+  pub is : out ≡ sets l i (encs w vs)
+
+pub rowed-first : (w : ℕ) (l : List ℕ) (i v : ℕ) {next : List ℕ} → next ≡ put w l i v → Rowed w l i (v ∷ []) next
+rowed-first w l i v e = record { is = e ∙ put-one w l i v }
+
+pub rowed-on : (w j v : ℕ) {l prev next : List ℕ} {i : ℕ} {vs : List ℕ} → Rowed w l i vs prev → next ≡ put w prev j v → j ≡ i + w * length vs
+    → Rowed w l i (vs ++ (v ∷ [])) next
+rowed-on w j v {l} {prev} {next} {i} {vs} p e h = record { is = e ∙ put-one w prev j v ∙ rw (p .is) (encs-then w vs (v ∷ []) l i j h) }

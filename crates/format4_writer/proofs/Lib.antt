@@ -1,0 +1,4 @@
+pub mod LogLaws
+pub mod PlacesLaws
+pub mod WalkLaws
+pub mod SubtableLaws

@@ -1,0 +1,100 @@
+-- What each pair commits is written behind what was; with the rest and the closing segment it is every column.
+use Prim.Native.Nat.{_-_}
+use mathlib.Core.Path.{_∙_}
+use native.Mathlib.Omega.{arith}
+use lib.ListN.{length}
+use Rattle.format4_writer.proofs.WalkLaws.{Writing, writing-start, writing-room, writing-on, ending-room, ended, close-room, close-yes, close-no}
+use borrow.Author.Needs.{needs}
+use Rattle.format4_writer.proofs.write_columns.Statement.{statement}
+use Rattle.format4_writer.proofs.write_columns.Tie as tie
+use Rattle.format4_writer.proofs.RangeWriter.absorb.Reads as RangeWriter-absorb-reads
+use Rattle.ranges.proofs.RangeState.absorb.Reads as RangeState-absorb-reads
+
+abbrev Inv-loop : tie.InvT-loop
+Inv-loop out₀ codes glyphs state₀ w₀ i₀ out state w i = Writing codes glyphs out₀ w₀ state out w i
+
+abbrev μ-loop : tie.MeasureT-loop
+μ-loop out₀ codes glyphs state₀ w₀ i₀ out state w i = length codes - i
+
+new-requires : tie.Need-new-requires Inv-loop μ-loop
+new-requires c κs = search needs
+
+loop-holds : tie.Need-loop-holds Inv-loop μ-loop
+loop-holds c = writing-start _ _ _ _ _ (c .new .ensures) (c .before .before .before .before .pre .1 .0) (c .before .before .before .before .pre .1 .1)
+
+mul-absorb : tie.Need-mul-absorb Inv-loop μ-loop
+mul-absorb c = search needs
+
+shared-slice-read-absorb : tie.Need-shared-slice-read-absorb Inv-loop μ-loop
+shared-slice-read-absorb c = search needs
+
+cast-absorb : tie.Need-cast-absorb Inv-loop μ-loop
+cast-absorb c = record { fits = c .before .before .before .before .before .before .before .pre .0 .low (c .before .before .loop .i) }
+
+mul-absorb-2 : tie.Need-mul-absorb-2 Inv-loop μ-loop
+mul-absorb-2 c = search needs
+
+shared-slice-read-absorb-2 : tie.Need-shared-slice-read-absorb-2 Inv-loop μ-loop
+shared-slice-read-absorb-2 c = omega (arith, c .before .before .before .before .before .before .before .before .pre .0 .even)
+
+absorb-requires : tie.Need-absorb-requires Inv-loop μ-loop
+absorb-requires c κs = search needs
+
+absorb-requires-2 : tie.Need-absorb-requires-2 Inv-loop μ-loop
+absorb-requires-2 c κs = writing-room _ _ _ _ _ _ _ _ (c .before .before .before .before .before .before .loop .inv) _ (c .before .before .before .before .before .before .before .before .before .before .before .pre .0) (c .before .before .before .before .before .loop-test .taken) (c .before .before .absorb .ensures)
+
+add-i : tie.Need-add-i Inv-loop μ-loop
+add-i c = search needs
+
+loop-less : tie.Need-loop-less Inv-loop μ-loop
+loop-less c = search needs
+
+loop-again : tie.Need-loop-again Inv-loop μ-loop
+loop-again c = writing-on _ _ _ _ _ _ _ _ (c .before .before .before .before .before .before .before .before .before .loop .inv) _ (c .before .before .before .before .before .before .before .before .before .before .before .before .before .before .pre .0) (c .before .before .before .before .before .before .before .before .loop-test .taken) (c .before .before .before .before .before .absorb .ensures) _ _ (c .before .before .absorb2 .ensures)
+
+finish-requires : tie.Need-finish-requires Inv-loop μ-loop
+finish-requires c κs = search needs
+
+absorb-requires-3 : tie.Need-absorb-requires-3 Inv-loop μ-loop
+absorb-requires-3 c κs = ending-room _ _ _ _ _ _ _ _ (c .before .before .before .loop .inv) _ (c .before .before .loop-test .left) (c .before .finish .ensures)
+
+write-one-range-requires : tie.Need-write-one-range-requires Inv-loop μ-loop
+write-one-range-requires c κs = close-room _ _ _ _ _ _ (ended _ _ _ _ _ _ _ _ (c .before .before .before .before .before .before .before .before .loop .inv) _ (c .before .before .before .before .before .before .before .loop-test .left) (c .before .before .before .before .before .before .finish .ensures) _ _ (c .before .before .before .before .absorb3 .ensures)) (c .before .if1 .taken)
+
+same-length : tie.Need-same-length Inv-loop μ-loop
+same-length c = c .before .before .write-one-range .kept .1 .0 ∙ (ended _ _ _ _ _ _ _ _ (c .before .before .before .before .before .before .before .before .before .before .before .loop .inv) _ (c .before .before .before .before .before .before .before .before .before .before .loop-test .left) (c .before .before .before .before .before .before .before .before .before .finish .ensures) _ _ (c .before .before .before .before .before .before .before .absorb3 .ensures)) .long
+
+returns : tie.Need-returns Inv-loop μ-loop
+returns c = c .before .before .write-one-range .ensures .1 ∙ close-yes _ _ _ _ _ _ (ended _ _ _ _ _ _ _ _ (c .before .before .before .before .before .before .before .before .before .before .before .loop .inv) _ (c .before .before .before .before .before .before .before .before .before .before .loop-test .left) (c .before .before .before .before .before .before .before .before .before .finish .ensures) _ _ (c .before .before .before .before .before .before .before .absorb3 .ensures)) (c .before .before .before .before .if1 .taken)
+
+same-length-2 : tie.Need-same-length-2 Inv-loop μ-loop
+same-length-2 c = (ended _ _ _ _ _ _ _ _ (c .before .before .before .before .before .before .before .loop .inv) _ (c .before .before .before .before .before .before .loop-test .left) (c .before .before .before .before .before .finish .ensures) _ _ (c .before .before .before .absorb3 .ensures)) .long
+
+returns-2 : tie.Need-returns-2 Inv-loop μ-loop
+returns-2 c = close-no _ _ _ _ _ _ (ended _ _ _ _ _ _ _ _ (c .before .before .before .before .before .before .before .loop .inv) _ (c .before .before .before .before .before .before .loop-test .left) (c .before .before .before .before .before .finish .ensures) _ _ (c .before .before .before .absorb3 .ensures)) (c .if1 .left)
+
+pub write-columns-spec : {M : Type 1} → statement M
+write-columns-spec =
+    tie.close
+    (tie.spec
+    Inv-loop
+    μ-loop
+    new-requires
+    loop-holds
+    mul-absorb
+    shared-slice-read-absorb
+    cast-absorb
+    mul-absorb-2
+    shared-slice-read-absorb-2
+    absorb-requires
+    absorb-requires-2
+    add-i
+    loop-less
+    loop-again
+    finish-requires
+    absorb-requires-3
+    write-one-range-requires
+    same-length
+    returns
+    same-length-2
+    returns-2)
