@@ -107,7 +107,7 @@ numbers-read language ss array xs at l s =
     let n = length-numbers language ss array in
     let short = l .short in
     let read : (k p v : ℕ) → k < length (numbers language ss array) → getD (numbers language ss array) k 0 ≡ v → v < 65536 → at + 2 * k ≡ p → be 2 xs p ≡ v =
-        λ k p v h e b q. ap (be 2 xs) (sym q) ∙ be-row-fits 2 (numbers language ss array) s k h (rw e b) ∙ e in
+    λ k p v h e b q. ap (be 2 xs) (sym q) ∙ be-row-fits 2 (numbers language ss array) s k h (rw e b) ∙ e in
     record {
       format = read 0 at 4 (omega arith) (unfold header in refl) (omega arith) (omega arith);
       long = read 1 (at + 2) (lengthWith (length ss) (length array)) (omega arith) (unfold header in refl) (omega arith) (omega arith);

@@ -1,0 +1,34 @@
+-- What a function asks for that makes a format 4 or 12 subtable of the pairs that a record's subtable maps.
+use Prim.Native.Nat.{ℕ, _+_, _≤_}
+use mathlib.Core.Path.{_≡_}
+use mathlib.Core.List.{List}
+use lib.ListN.{length}
+use Rattle.laws.specs.Lists.{Pair}
+use Rattle.source.specs.Kind.{formatOf}
+use Rattle.records.specs.Records.{leadsTo, Placed}
+use Rattle.listing.specs.Listing.{Beside, Columns}
+use Rattle.format4.specs.declared.RangeCounter.{RangeCounter}
+use Rattle.format4.specs.declared.Size.the-variants.{Fits}
+use Rattle.format4.specs.Size.{sizeOf as sizeOf4, lengthOf as lengthOf4}
+
+-- record k of the source is there, the font has n glyphs, the code points rise and each has a flag, and there is room for all pairs
+pub record Pairs (xs : List ℕ) (k n : ℕ) (codes glyphs flags tocodes toglyphs : List ℕ) : Type 0 where
+  pub placed : Placed xs k
+  pub beside : Beside n codes flags
+  pub columns : Columns codes glyphs tocodes toglyphs
+  pub few : length codes ≤ 65535
+
+-- the record leads to a readable subtable of that format
+pub record Leads (xs : List ℕ) (k format : ℕ) : Type 0 where
+  pub is : formatOf (leadsTo xs k) ≡ format
+
+-- the first m entries of two columns are there
+pub record Front (m : ℕ) (cs gs : List ℕ) : Type 0 where
+  pub codes : m ≤ length cs
+  pub glyphs : m ≤ length gs
+
+-- the pairs make a format 4 subtable that is neither empty nor too long, and it fits into l bytes at a place
+pub record Fits4 (ps : List Pair) (at l : ℕ) : Type 0 where
+  pub counter : RangeCounter
+  pub is : sizeOf4 ps ≡ Fits counter
+  pub room : at + lengthOf4 counter ≤ l

@@ -1,0 +1,157 @@
+// Format 4 and format 12 subtables of the listed pairs that a record's subtable maps: how long they get, and their bytes.
+use format4::RangeCounter;
+ghost use mathlib.Core.Path.{_≡_};
+ghost use Prim.Native.Nat.{_+_, _≤_};
+ghost use lib.ListN.{length, take};
+ghost use lib.Seq.{sets};
+ghost use Rattle.laws.specs.Lists.{pairs};
+ghost use Rattle.listing.specs.Listing.{listed};
+ghost use Rattle.format4.specs.declared.Size.the-variants.{Fits};
+ghost use Rattle.format4.specs.Format4.{format4};
+ghost use Rattle.format4.specs.Size.{sizeOf as sizeOf4, lengthOf as lengthOf4, Columns as Columns4};
+ghost use Rattle.format12.specs.Format12.{format12, sizeOf as sizeOf12, Columns as Columns12, Room as Room12};
+ghost use Rattle.making.specs.Making.{Pairs, Leads, Front, Fits4};
+
+// The size of the format 4 subtable of the first m pairs.
+fn size4_of(codes: &[u32], glyphs: &[u16], m: usize) -> format4::Size
+    requires { ⌜ Front m (now codes) (now glyphs) ⌝ }
+    requires { ⌜ Columns4 (take m (now codes)) (take m (now glyphs)) ⌝ }
+    ensures { λ r. ⌜ r ≡ sizeOf4 (pairs (take m (now (codes .entry))) (take m (now (glyphs .entry)))) ⌝ }
+{
+    format4::format4_size(&codes[..m], &glyphs[..m])
+}
+
+// The size of the format 4 subtable that record k makes.
+pub fn size4(
+    s: &[u8],
+    k: usize,
+    n: u32,
+    codes: &[u32],
+    glyphs: &[u16],
+    flags: &mut [u8],
+    tocodes: &mut [u32],
+    toglyphs: &mut [u16],
+) -> format4::Size
+    requires { ⌜ Pairs (now s) k n (now codes) (now glyphs) (now flags) (now tocodes) (now toglyphs) ⌝ }
+    requires { ⌜ Leads (now s) k 4 ⌝ }
+    ensures { λ r. ⌜ r ≡ sizeOf4 (listed (now (s .entry)) n (now (codes .entry)) (now (glyphs .entry)) k) ⌝ }
+{
+    let m = listing::list_record(s, k, n, codes, glyphs, flags, tocodes, toglyphs);
+    size4_of(tocodes, toglyphs, m)
+}
+
+// The size of the format 12 subtable of the first m pairs.
+fn size12_of(codes: &[u32], glyphs: &[u16], m: usize) -> format12::Size
+    requires { ⌜ Front m (now codes) (now glyphs) ⌝ }
+    requires { ⌜ Columns12 (take m (now codes)) (take m (now glyphs)) ⌝ }
+    ensures { λ r. ⌜ r ≡ sizeOf12 (pairs (take m (now (codes .entry))) (take m (now (glyphs .entry)))) ⌝ }
+{
+    format12::format12_size(&codes[..m], &glyphs[..m])
+}
+
+// The size of the format 12 subtable that record k makes.
+pub fn size12(
+    s: &[u8],
+    k: usize,
+    n: u32,
+    codes: &[u32],
+    glyphs: &[u16],
+    flags: &mut [u8],
+    tocodes: &mut [u32],
+    toglyphs: &mut [u16],
+) -> format12::Size
+    requires { ⌜ Pairs (now s) k n (now codes) (now glyphs) (now flags) (now tocodes) (now toglyphs) ⌝ }
+    ensures { λ r. ⌜ r ≡ sizeOf12 (listed (now (s .entry)) n (now (codes .entry)) (now (glyphs .entry)) k) ⌝ }
+{
+    let m = listing::list_record(s, k, n, codes, glyphs, flags, tocodes, toglyphs);
+    size12_of(tocodes, toglyphs, m)
+}
+
+// Writes the format 4 subtable of the first m pairs.
+fn write4_of(
+    out: &mut [u8],
+    at: usize,
+    language: u32,
+    codes: &[u32],
+    glyphs: &[u16],
+    m: usize,
+    counter: RangeCounter,
+)
+    requires { ⌜ Front m (now codes) (now glyphs) ⌝ }
+    requires { ⌜ Columns4 (take m (now codes)) (take m (now glyphs)) ⌝ }
+    requires { ⌜ sizeOf4 (pairs (take m (now codes)) (take m (now glyphs))) ≡ Fits counter ⌝ }
+    requires { ⌜ at + lengthOf4 counter ≤ length (now out) ⌝ }
+    ensures { λ _. ⌜ now (out .exit) ≡ sets (now (out .entry)) at (format4 language (pairs (take m (now (codes .entry))) (take m (now (glyphs .entry))))) ⌝ }
+{
+    format4_writer::write_format4(out, at, language, &codes[..m], &glyphs[..m], counter);
+}
+
+// Writes the format 12 subtable of the first m pairs.
+fn write12_of(
+    out: &mut [u8],
+    at: usize,
+    language: u32,
+    codes: &[u32],
+    glyphs: &[u16],
+    m: usize,
+    groups: usize,
+)
+    requires { ⌜ Front m (now codes) (now glyphs) ⌝ }
+    requires { ⌜ Columns12 (take m (now codes)) (take m (now glyphs)) ⌝ }
+    requires { ⌜ Room12 (pairs (take m (now codes)) (take m (now glyphs))) groups at (length (now out)) ⌝ }
+    ensures { λ _. ⌜ now (out .exit) ≡ sets (now (out .entry)) at (format12 language (pairs (take m (now (codes .entry))) (take m (now (glyphs .entry))))) ⌝ }
+{
+    format12::write_format12(out, at, language, &codes[..m], &glyphs[..m], groups);
+}
+
+// Writes the format 4 subtable that record k makes.
+pub fn write4(
+    out: &mut [u8],
+    at: usize,
+    language: u32,
+    s: &[u8],
+    k: usize,
+    n: u32,
+    codes: &[u32],
+    glyphs: &[u16],
+    flags: &mut [u8],
+    tocodes: &mut [u32],
+    toglyphs: &mut [u16],
+)
+    requires { ⌜ Pairs (now s) k n (now codes) (now glyphs) (now flags) (now tocodes) (now toglyphs) ⌝ }
+    requires { ⌜ Leads (now s) k 4 ⌝ }
+    requires { ⌜ Fits4 (listed (now s) n (now codes) (now glyphs) k) at (length (now out)) ⌝ }
+    ensures { λ _. ⌜ now (out .exit) ≡ sets (now (out .entry)) at (format4 language (listed (now (s .entry)) n (now (codes .entry)) (now (glyphs .entry)) k)) ⌝ }
+{
+    let m = listing::list_record(s, k, n, codes, glyphs, flags, tocodes, toglyphs);
+    match size4_of(tocodes, toglyphs, m) {
+        format4::Size::Fits(counter) => {
+            write4_of(out, at, language, tocodes, toglyphs, m, counter)
+        }
+        format4::Size::Empty => {}
+        format4::Size::TooLong => {}
+    }
+}
+
+// Writes the format 12 subtable that record k makes.
+pub fn write12(
+    out: &mut [u8],
+    at: usize,
+    language: u32,
+    s: &[u8],
+    k: usize,
+    n: u32,
+    codes: &[u32],
+    glyphs: &[u16],
+    flags: &mut [u8],
+    tocodes: &mut [u32],
+    toglyphs: &mut [u16],
+)
+    requires { ⌜ Pairs (now s) k n (now codes) (now glyphs) (now flags) (now tocodes) (now toglyphs) ⌝ }
+    requires { ⌜ at + length (format12 language (listed (now s) n (now codes) (now glyphs) k)) ≤ length (now out) ⌝ }
+    ensures { λ _. ⌜ now (out .exit) ≡ sets (now (out .entry)) at (format12 language (listed (now (s .entry)) n (now (codes .entry)) (now (glyphs .entry)) k)) ⌝ }
+{
+    let m = listing::list_record(s, k, n, codes, glyphs, flags, tocodes, toglyphs);
+    let size = size12_of(tocodes, toglyphs, m);
+    write12_of(out, at, language, tocodes, toglyphs, m, size.groups);
+}
