@@ -1,12 +1,13 @@
 -- A head's answer by the header h that was read, as rules whose premises stand among a need's facts; and what a head gives of a table.
 use Prim.Native.Nat.{ℕ, _+_, _*_, _<_, _≤_}
-use mathlib.Core.Path.{_≡_, refl, sym, ap, _∙_}
+use mathlib.Core.Path.{_≡_, refl, sym, _∙_}
 use mathlib.Core.List.{List}
-use mathlib.Core.Bool.{Bool, true, false}
+use mathlib.Core.Bool.{true, false}
 use mathlib.Core.Logic.{_⊎_, inl, inr}
 use native.Mathlib.Omega.{arith}
 use lib.ListN.{length}
-use Rattle.laws.specs.Search.{first}
+use lib.Dec.{ltb}
+use Rattle.laws.specs.Choice.{ifLt}
 use Rattle.laws.proofs.ChoiceLaws.{by-pick, if-lt, else-lt}
 use Rattle.laws.proofs.FirstLaws.{first-is, first-none}
 use Rattle.source.specs.declared.Header.{Header}
@@ -16,7 +17,7 @@ use Rattle.source.proofs.HeaderLaws.{Accepted, not-refused, tells-records, tell
 use Rattle.lookup.specs.Lookup.{lookup4, lookup12, glyphOf}
 use Rattle.heads.specs.declared.Answer.{Answer}
 use Rattle.heads.specs.declared.Answer.the-variants.{Glyph, Refused}
-use Rattle.heads.specs.Heads.{leadsTo, oldOf, newOf, byRecords, oldHead, newHead}
+use Rattle.heads.specs.Heads.{leadsTo, oldOf, newOf, byRecords, oldHead, newHead, numberOf}
 
 -- ---- by the header
 
@@ -66,3 +67,32 @@ module _ (xs : List ℕ) (n : ℕ) (a : Accepted xs n) (c : ℕ) where
   old-none miss =
       let f = first-none (leadsTo xs 4) n miss in
       by-accepted xs (oldOf xs c) a ∙ rw f (sym (else-lt n n _ _ (omega arith) refl))
+
+-- ---- a head's number is 0, 5 or 11
+
+pub record Told (r : Answer) : Type 0 where
+  pub number : (numberOf r ≡ 0) ⊎ ((numberOf r ≡ 5) ⊎ (numberOf r ≡ 11))
+
+told-if : (a b : ℕ) (x y : Answer) → Told x → Told y → Told (ifLt a b x y)
+unfolding ifLt
+told-if a b x y p q = by-pick Told (ltb a b) x y (λ e. p) (λ e. q)
+
+module _ (xs : List ℕ) (c : ℕ) where
+  old-told : (n : ℕ) → Told (oldOf xs c n)
+  unfolding oldOf
+  old-told n = told-if _ _ _ _ (record { number = inl refl }) (record { number = inr (inr refl) })
+
+  new-told : (n : ℕ) → Told (newOf xs c n)
+  unfolding newOf
+  new-told n = told-if _ _ _ _ (record { number = inl refl }) (old-told n)
+
+  told-by : (answer : ℕ → Answer) → ((n : ℕ) → Told (answer n)) → Told (byRecords xs answer)
+  unfolding byRecords
+  told-by answer f =
+      by-pick Told (refused5 xs) (Refused 5) (answer (recordCount xs)) (λ e. record { number = inr (inl refl) }) (λ e. f (recordCount xs))
+
+  pub old-number : Told (oldHead xs c)
+  old-number = told-by (oldOf xs c) old-told
+
+  pub new-number : Told (newHead xs c)
+  new-number = told-by (newOf xs c) new-told

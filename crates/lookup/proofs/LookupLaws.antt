@@ -1,6 +1,6 @@
 -- The turns of the search for a segment or a group, and the answer by the kind that was found: rules whose premises stand among a need's facts.
 use Prim.Native.Nat.{ℕ, _+_, _<_, _≤_}
-use mathlib.Core.Path.{_≡_, refl, sym, _∙_}
+use mathlib.Core.Path.{_≡_}
 use mathlib.Core.List.{List}
 use borrow.Author.Tests.{le-leb, lt-leb}
 use Rattle.laws.specs.Search.{first}

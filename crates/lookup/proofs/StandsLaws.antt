@@ -10,7 +10,7 @@ use Rattle.laws.proofs.StandsLaws.{Stands}
 use Rattle.source.specs.declared.Kind.{Kind}
 use Rattle.source.specs.declared.Kind.the-variants.{Format4, Format12, Format14, Unreadable}
 use Rattle.source.specs.Kind.{kindAt, lengthOf}
-use Rattle.source.specs.Fields.{endCode, startCode, idDelta, idRangeOffset, arrayEntries, startCharCode, endCharCode, startGlyphID}
+use Rattle.source.specs.Fields.{endCode, startCode, idDelta, idRangeOffset, arrayEntries, endCharCode}
 use Rattle.source.proofs.KindLaws.{tells4, tells12}
 use Rattle.source.proofs.StandsLaws.{be-stands, kind-stands}
 use Rattle.lookup.specs.Lookup.{reaches, inArray, inSegment, find4, inGroup, find12, lookup4In, lookup4, lookup12In, lookup12}

@@ -1,34 +1,18 @@
 -- Which bytes give a kind, and what a kind tells of the bytes.
-use Prim.Native.Nat.{ℕ, _+_, _*_, _%_, _≤_, _<_}
+use Prim.Native.Nat.{ℕ, _+_, _*_, _%_, _≤_}
 use mathlib.Core.Path.{_≡_, refl, subst}
 use mathlib.Core.List.{List}
-use mathlib.Core.Bool.{Bool, true, false}
+use mathlib.Core.Bool.{true}
 use native.Mathlib.Omega.{arith}
 use lib.ListN.{length}
 use lib.Dec.{leb, eqb}
 use borrow.Author.Tests.{le-leb, leb-true, eq-eqb, eqb-true}
-use Rattle.laws.specs.Choice.{pick, both}
 use Rattle.laws.proofs.ChoiceLaws.{both-left, both-right, not-true, by-pick}
-use Rattle.number.specs.BigEndian.{be, Bytes}
+use Rattle.number.specs.BigEndian.{Bytes}
 use Rattle.number.proofs.BigEndianLaws.{be-lt}
 use Rattle.source.specs.declared.Kind.{Kind}
 use Rattle.source.specs.declared.Kind.the-variants.{Format4, Format12, Format14, Unreadable}
-use Rattle.source.specs.Kind.{
-  format,
-  length4,
-  language4,
-  segCountX2,
-  segments4,
-  readable4,
-  length12,
-  language12,
-  groups12,
-  readable12,
-  length14,
-  records14,
-  readable14,
-  kindAt,
-}
+use Rattle.source.specs.Kind.{format, length4, language4, segCountX2, segments4, readable4, length12, language12, groups12, readable12, length14, records14, readable14, kindAt}
 use Rattle.source.specs.Room.{Room4, Room12, Room14}
 
 -- ---- the tests as facts

@@ -1,17 +1,17 @@
 -- A subtable that is as long as its length field says is read, where it stands in a source, as it is read alone.
-use Prim.Native.Nat.{ℕ, _+_, _*_, _≤_, _<_}
-use mathlib.Core.Path.{_≡_, refl, sym, ap, _∙_}
+use Prim.Native.Nat.{ℕ, _+_, _≤_, _<_}
+use mathlib.Core.Path.{_≡_, refl, sym}
 use mathlib.Core.List.{List}
 use native.Mathlib.Nat.{add-assoc}
 use native.Mathlib.Omega.{arith}
-use lib.ListN.{length, getD}
+use lib.ListN.{length}
 use Rattle.laws.proofs.StandsLaws.{Stands}
 use Rattle.number.specs.BigEndian.{be}
 use Rattle.number.proofs.BigEndianLaws.{be-ext}
 use Rattle.source.specs.declared.Kind.{Kind}
 use Rattle.source.specs.declared.Kind.the-variants.{Format4, Format12, Format14, Unreadable}
 use Rattle.source.specs.Kind.{kindAt, lengthOf}
-use Rattle.source.proofs.KindLaws.{gives4, gives12, gives14, tells4, tells12, tells14, Readable4, Readable12, Readable14}
+use Rattle.source.proofs.KindLaws.{gives4, gives12, gives14, tells4, tells12, tells14}
 
 module _ {xs t : List ℕ} {at : ℕ} (st : Stands xs at t) where
   -- the number at j of the source is that at i of the subtable
