@@ -20,3 +20,4 @@ pub mod FirstLaws
 pub mod LengthLaws
 pub mod FrontLaws
 pub mod AnyLaws
+pub mod ListedLaws
