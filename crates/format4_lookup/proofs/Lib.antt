@@ -2,3 +2,4 @@ pub mod ColumnsAtLaws
 pub mod Format4KindLaws
 pub mod ColumnsFindLaws
 pub mod Format4FindsLaws
+pub mod LoneLaws
