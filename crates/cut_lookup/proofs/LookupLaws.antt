@@ -1,4 +1,4 @@
--- Looking a code point up in the segments that a rising list of pairs is cut into gives its listed glyph, or 0 where none is listed.
+-- Looking a code point up in the segments that a rising list of pairs is cut into gives its listed glyph, or tells that none is listed.
 use Prim.Native.Nat.{ℕ, zero, suc, _+_, _-_, _%_, _≤_, _<_}
 use native.Mathlib.Omega.{arith}
 use mathlib.Core.Path.{_≡_, refl, sym, ap, _∙_}
@@ -15,7 +15,7 @@ use Rattle.laws.specs.Listed.{listed}
 use Rattle.laws.specs.Linked.{Each, Filled, Linked}
 use Rattle.laws.proofs.ChoiceLaws.{by-pick, by-leb, false-true}
 use Rattle.laws.proofs.EitherLaws.{true-of-not}
-use Rattle.laws.proofs.EachLaws.{each-append, each-of, each-both, each-parts, each-pieces, each-map, each-mapped, each-at, each-concat}
+use Rattle.laws.proofs.EachLaws.{each-of, each-both, each-pieces, each-mapped}
 use Rattle.laws.proofs.ListedLaws.{listed-not, listed-none}
 use Rattle.laws.proofs.LinkedLaws.{linked-filled, pieces-linked}
 use Rattle.laws.proofs.PairsLaws.{firsts-pairs, each-pairs}
@@ -23,7 +23,7 @@ use Rattle.laws.proofs.RisingEachLaws.{Climbs, rising-climbs, climbs-right}
 use Rattle.ranges.specs.declared.Segment.{Segment}
 use Rattle.ranges.specs.Steps.{closing, entriesOf}
 use Rattle.ranges.specs.Cutting.{nextCode, nextGlyph, rangesOf, runsOf, Cut, cutOf, present, cutRange, cuts, runDelta, firstCode, lastCode, segmentOf, lastEnd, segments, glyphs, arrayOf, glyphArray}
-use Rattle.ranges.proofs.CuttingLaws.{parts, Adjacent, linked-length, cuts-pairs, runs-each, cuts-each, cuts-adjacent, segments-closed}
+use Rattle.ranges.proofs.CuttingLaws.{parts, Adjacent, linked-length, cuts-pairs, runs-each, cuts-each, cuts-adjacent}
 use Rattle.cut_lookup.proofs.FitsLaws.{Fit, cuts-fit, first-low}
 use Rattle.cut_lookup.specs.Lookup.{valueIn, lookupIn, unlisted, codes, Fits, Listed}
 

@@ -1,5 +1,5 @@
 -- The numbers of a written format 4 subtable, read back from its bytes column by column.
-use Prim.Native.Nat.{ℕ, zero, suc, _+_, _*_, _≤_, _<_}
+use Prim.Native.Nat.{ℕ, zero, suc, _+_, _*_, _<_}
 use mathlib.Core.Path.{_≡_, refl, sym, ap, _∙_}
 use mathlib.Core.List.{List, [], _∷_, _++_, map}
 use native.Mathlib.Nat.{add-zero}
@@ -20,7 +20,7 @@ use Rattle.ranges.specs.Cutting as cutting
 use Rattle.ranges.proofs.CuttingLaws.{array-from}
 use Rattle.ranges.proofs.WalkLaws.{walk-cuts}
 use Rattle.source.specs.Fields.{endCode, startCode, idDelta, idRangeOffset, glyphIdArray}
-use Rattle.format4.specs.Format4.{segmentsOf, arrayFrom, arrayOf, offsetsFrom, lengthWith, header, endOf, startOf, deltaOf, columns, numbers, format4}
+use Rattle.format4.specs.Format4.{segmentsOf, arrayFrom, arrayOf, offsetsFrom, header, endOf, startOf, deltaOf, columns, numbers, format4}
 use Rattle.format4.proofs.Format4Laws.{length-offsets}
 use Rattle.cut_lookup.proofs.FitsLaws.{SegmentFits, Low}
 
@@ -134,8 +134,11 @@ module _ (language : ℕ) (ss : List Segment) (array : List ℕ) where
 
   pub columns-held : Each SegmentFits ss → 2 * length ss + 2 * entries ss < 65536 → Held T S 0 0 ss
   columns-held l h = record {
-    ends = column (endCode T 0) 7 (map endOf ss) (0 ∷ from-starts) (λ k. ap (be 2 T) (omega arith)) ends-from (each-map Low endOf ss (each-of SegmentFits (λ (x : Segment). x .end < 65536) (λ x f. f .end) ss l));
-    starts = column (startCode T 0 S) (8 + S) (map startOf ss) from-deltas (λ k. ap (be 2 T) (omega arith)) starts-from (each-map Low startOf ss (each-of SegmentFits (λ (x : Segment). x .start < 65536) (λ x f. f .start) ss l));
-    deltas = column (idDelta T 0 S) (8 + 2 * S) (map deltaOf ss) from-offsets (λ k. ap (be 2 T) (omega arith)) deltas-from (each-map Low deltaOf ss (each-of SegmentFits (λ (x : Segment). x .delta < 65536) (λ x f. f .delta) ss l));
+    ends = column (endCode T 0) 7 (map endOf ss) (0 ∷ from-starts) (λ k. ap (be 2 T) (omega arith)) ends-from (field-low endOf (λ x f. f .end));
+    starts = column (startCode T 0 S) (8 + S) (map startOf ss) from-deltas (λ k. ap (be 2 T) (omega arith)) starts-from (field-low startOf (λ x f. f .start));
+    deltas = column (idDelta T 0 S) (8 + 2 * S) (map deltaOf ss) from-offsets (λ k. ap (be 2 T) (omega arith)) deltas-from (field-low deltaOf (λ x f. f .delta));
     offsets = column (idRangeOffset T 0 S) (8 + 3 * S) (offsetsFrom 0 ss) array (λ k. ap (be 2 T) (omega arith)) offsets-from (offsets-low 0 65536 ss (omega arith));
   }
+    where
+      field-low : (field : Segment → ℕ) → ((x : Segment) → SegmentFits x → field x < 65536) → Each Low (map field ss)
+      field-low field f = each-map Low field ss (each-of SegmentFits (λ (x : Segment). field x < 65536) f ss l)

@@ -1,24 +1,23 @@
 -- A lookup in a written format 4 subtable gives the listed glyph of every listed code point, and nothing at any other but glyph 0 at 0xFFFF.
-use Prim.Native.Nat.{ℕ, _+_, _*_, _/_, _≤_, _<_}
+use Prim.Native.Nat.{ℕ, _<_}
 use mathlib.Core.Path.{_≡_, refl, sym, ap, _∙_}
-use mathlib.Core.List.{List, [], _∷_, _++_}
+use mathlib.Core.List.{List, _++_}
 use mathlib.Core.Bool.{Bool, true, false}
 use native.Mathlib.Omega.{arith}
 use borrow.Author.Tests.{ne-eqb}
 use lib.Dec.{eqb}
 use lib.ListN.{length, getD}
 use Rattle.laws.specs.Choice.{pick}
-use Rattle.laws.specs.Lists.{Pair}
+use Rattle.laws.specs.Lists.{Pair, pairs, Rising}
 use Rattle.laws.specs.Listed.{listed, listedGlyph}
-use Rattle.laws.proofs.ChoiceLaws.{by-leb, if-lt, else-lt, pick-same}
+use Rattle.laws.proofs.ChoiceLaws.{by-leb, if-lt, else-lt}
 use Rattle.laws.proofs.EachLaws.{each-of}
-use Rattle.laws.proofs.ListedLaws.{listed-ap, listed-none}
+use Rattle.laws.proofs.ListedLaws.{listed-ap, listed-none, listed-nth, listed-absent}
 use Rattle.laws.proofs.StandsLaws.{Stands, stands-append}
 use Rattle.ranges.specs.Cutting.{segments, glyphArray}
 use Rattle.ranges.proofs.CuttingLaws.{length-array}
-use Rattle.source.specs.Kind.{kindAt, lengthOf}
+use Rattle.source.specs.Kind.{lengthOf}
 use Rattle.source.specs.Fields.{arrayEntries, glyphIdArray}
-use Rattle.lookup.specs.declared.Found.{Found}
 use Rattle.lookup.specs.declared.Found.the-variants.{Nothing, Glyph}
 use Rattle.lookup.specs.Lookup.{find4, lookup4, glyphOf}
 use Rattle.lookup.proofs.StandsLaws.{lookup4-stands}
@@ -86,3 +85,16 @@ module _ (language : ℕ) (ps : List Pair) (l : Listed ps) (w : Written language
 
   pub format4-finds-between : (front back : List ℕ) (c : ℕ) → glyphOf (lookup4 (front ++ (T ++ back)) (length front) c) ≡ listedGlyph ps c
   format4-finds-between front back c = format4-finds-stands (stands-append front T back) c
+
+-- ---- two columns as pairs: what is found, one by one
+
+module _ (language : ℕ) (cs gs : List ℕ) (l : Listed (pairs cs gs)) (w : Written language (pairs cs gs)) where
+  pub gives-glyph : (k : ℕ) → Rising cs → length cs ≡ length gs → k < length cs → lookup4 (format4 language (pairs cs gs)) 0 (getD cs k 0) ≡ Glyph (getD gs k 0)
+  gives-glyph k r e h = format4-gives language (pairs cs gs) l w (getD cs k 0) ∙ listed-nth (unlisted Nothing Glyph (getD cs k 0)) Glyph cs gs k r e h
+
+  module _ (c : ℕ) (absent : (k : ℕ) → k < length cs → getD cs k 0 ≡ c → ⊥) where
+    pub gives-zero : c ≡ 0xFFFF → lookup4 (format4 language (pairs cs gs)) 0 c ≡ Glyph 0
+    gives-zero e = format4-gives language (pairs cs gs) l w c ∙ listed-absent (unlisted Nothing Glyph c) Glyph cs gs c absent ∙ rw e
+
+    pub gives-nothing : (c ≡ 0xFFFF → ⊥) → lookup4 (format4 language (pairs cs gs)) 0 c ≡ Nothing
+    gives-nothing n = format4-gives language (pairs cs gs) l w c ∙ listed-absent (unlisted Nothing Glyph c) Glyph cs gs c absent ∙ rw (ne-eqb c 0xFFFF n)

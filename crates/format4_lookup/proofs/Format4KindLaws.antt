@@ -1,5 +1,5 @@
 -- A written format 4 subtable is readable, as itself: its language, its number of segments, and its own length.
-use Prim.Native.Nat.{ℕ, _+_, _*_, _/_, _%_, _≤_, _<_}
+use Prim.Native.Nat.{ℕ, _+_, _*_}
 use mathlib.Core.Path.{_≡_, refl, sym, ap, _∙_}
 use mathlib.Core.List.{List, _++_}
 use native.Mathlib.Omega.{arith}
@@ -7,13 +7,12 @@ use lib.ListN.{length}
 use Rattle.laws.specs.Lists.{Pair}
 use Rattle.laws.proofs.StandsLaws.{Stands, stands-append}
 use Rattle.number.specs.BigEndian.{be}
-use Rattle.number.specs.Row.{encs}
 use Rattle.ranges.specs.Cutting.{segments, glyphArray}
 use Rattle.source.specs.declared.Kind.the-variants.{Format4}
 use Rattle.source.specs.Kind.{kindAt, lengthOf}
 use Rattle.source.proofs.KindLaws.{gives4, Readable4}
 use Rattle.source.proofs.StandsLaws.{kind-stands}
-use Rattle.format4.specs.Format4.{lengthWith, header, numbers, format4}
+use Rattle.format4.specs.Format4.{lengthWith, header, format4}
 use Rattle.format4.proofs.Format4Laws.{length-format4}
 use Rattle.cut_lookup.proofs.FitsLaws.{segments-some}
 use Rattle.format4_lookup.specs.Lookup.{Written}

@@ -1,21 +1,18 @@
 -- Lone points are a segment each: 8,188 of them make 65,528 bytes, and 8,189 are too long.
 use Prim.Native.Nat.{ℕ, zero, suc, _+_, _*_, _≤_, _<_}
-use mathlib.Core.Path.{_≡_, refl, sym, ap, _∙_}
+use mathlib.Core.Path.{_≡_, refl, ap, _∙_}
 use mathlib.Core.List.{List, [], _∷_, _++_, map}
 use mathlib.Core.Bool.{true}
 use native.Mathlib.Omega.{arith}
 use borrow.Author.Tests.{le-leb, lt-leb, eq-eqb, ne-eqb}
 use lib.ListN.{length, length-append, length-map}
-use Rattle.laws.specs.Choice.{pick}
 use Rattle.laws.specs.Lists.{Pair}
-use Rattle.ranges.specs.declared.Segment.{Segment}
-use Rattle.ranges.specs.declared.Committed.the-variants.{None, One}
-use Rattle.ranges.specs.Steps.{deltaOf, idle, begun, commit, step, finish, toList, closing, cutFrom, entriesOf, entries}
-use Rattle.ranges.specs.Cutting.{segments, glyphArray}
+use Rattle.ranges.specs.Steps.{deltaOf, begun, commit, step, finish, toList, closing, cutFrom, entriesOf, entries}
+use Rattle.ranges.specs.Cutting.{segments}
 use Rattle.ranges.proofs.CuttingLaws.{length-array}
 use Rattle.ranges.proofs.WalkLaws.{walk-cuts}
-use Rattle.format4.specs.Format4.{segmentsOf, arrayOf, lengthWith, format4}
-use Rattle.format4.specs.declared.Size.the-variants.{Empty, TooLong, Fits}
+use Rattle.format4.specs.Format4.{format4}
+use Rattle.format4.specs.declared.Size.the-variants.{TooLong, Fits}
 use Rattle.format4.specs.Size.{sizeOf, countOf, lengthOf}
 use Rattle.format4.proofs.Format4Laws.{length-format4}
 use Rattle.format4_lookup.specs.Lone.{Point, Lone, alone, spaced}
