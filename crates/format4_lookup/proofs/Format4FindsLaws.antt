@@ -1,5 +1,5 @@
 -- A lookup in a written format 4 subtable gives the listed glyph of every listed code point, and nothing at any other but glyph 0 at 0xFFFF.
-use Prim.Native.Nat.{ℕ, _<_}
+use Prim.Native.Nat.{ℕ, _+_, _≤_, _<_}
 use mathlib.Core.Path.{_≡_, refl, sym, ap, _∙_}
 use mathlib.Core.List.{List, _++_}
 use mathlib.Core.Bool.{Bool, true, false}
@@ -7,13 +7,14 @@ use native.Mathlib.Omega.{arith}
 use borrow.Author.Tests.{ne-eqb}
 use lib.Dec.{eqb}
 use lib.ListN.{length, getD}
+use lib.Seq.{sets}
 use Rattle.laws.specs.Choice.{pick}
 use Rattle.laws.specs.Lists.{Pair, pairs, Rising}
 use Rattle.laws.specs.Listed.{listed, listedGlyph}
 use Rattle.laws.proofs.ChoiceLaws.{by-leb, if-lt, else-lt}
 use Rattle.laws.proofs.EachLaws.{each-of}
 use Rattle.laws.proofs.ListedLaws.{listed-ap, listed-none, listed-nth, listed-absent}
-use Rattle.laws.proofs.StandsLaws.{Stands, stands-append}
+use Rattle.laws.proofs.StandsLaws.{Stands, stands-append, stands-sets}
 use Rattle.ranges.specs.Cutting.{segments, glyphArray}
 use Rattle.ranges.proofs.CuttingLaws.{length-array}
 use Rattle.source.specs.Kind.{lengthOf}
@@ -85,6 +86,10 @@ module _ (language : ℕ) (ps : List Pair) (l : Listed ps) (w : Written language
 
   pub format4-finds-between : (front back : List ℕ) (c : ℕ) → glyphOf (lookup4 (front ++ (T ++ back)) (length front) c) ≡ listedGlyph ps c
   format4-finds-between front back c = format4-finds-stands (stands-append front T back) c
+
+  -- in what a writer leaves
+  pub format4-finds-sets : (out : List ℕ) (at : ℕ) → at + length T ≤ length out → (c : ℕ) → glyphOf (lookup4 (sets out at T) at c) ≡ listedGlyph ps c
+  format4-finds-sets out at h c = format4-finds-stands (stands-sets out at T h) c
 
 -- ---- two columns as pairs: what is found, one by one
 

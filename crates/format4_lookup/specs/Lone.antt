@@ -1,5 +1,4 @@
--- Lone points with deltas other than 0 and without 0xFFFF: the pairs of the longest format 4 subtable by segments alone
--- (docs/01-rules.md, "Cases").
+-- Lone points with deltas other than 0 and without 0xFFFF, which become a segment each (docs/01-rules.md, "Cases").
 use Prim.Native.Nat.{ℕ, zero, suc, _+_, _*_, _<_}
 use mathlib.Core.Path.{_≡_}
 use mathlib.Core.List.{List, [], _∷_}
