@@ -1,2 +1,2 @@
+pub mod FitsLaws
 pub mod LookupLaws
-pub mod ColumnsLaws

@@ -1,7 +1,7 @@
--- Looking a code point up in the segments that a rising list of pairs is cut into gives its listed glyph, or 0 where none is listed.
+-- Looking a code point up in the segments that a rising list of pairs is cut into gives its listed glyph, or tells that none is listed.
 use Prim.Native.Nat.{ℕ, zero, suc, _+_, _-_, _%_, _≤_, _<_}
 use native.Mathlib.Omega.{arith}
-use mathlib.Core.Path.{_≡_, refl, sym, _∙_}
+use mathlib.Core.Path.{_≡_, refl, sym, ap, _∙_}
 use mathlib.Core.List.{List, [], _∷_, _++_, map, map-append, append-nil}
 use mathlib.Core.Bool.{Bool, true, false, not}
 use lib.Dec.{eqb, leb}
@@ -11,16 +11,21 @@ use borrow.Author.Tests.{le-leb, lt-leb, leb-true, leb-false, eq-eqb, ne-eqb, eq
 use Rattle.laws.specs.Choice.{pick}
 use Rattle.laws.specs.Lists.{Pair, pairs, Rising}
 use Rattle.laws.specs.Pieces.{concat}
+use Rattle.laws.specs.Listed.{listed}
 use Rattle.laws.specs.Linked.{Each, Filled, Linked}
 use Rattle.laws.proofs.ChoiceLaws.{by-pick, by-leb, false-true}
-use Rattle.laws.proofs.EachLaws.{each-of, each-both, each-pieces}
+use Rattle.laws.proofs.EitherLaws.{true-of-not}
+use Rattle.laws.proofs.EachLaws.{each-of, each-both, each-pieces, each-mapped}
+use Rattle.laws.proofs.ListedLaws.{listed-not, listed-none}
 use Rattle.laws.proofs.LinkedLaws.{linked-filled, pieces-linked}
 use Rattle.laws.proofs.PairsLaws.{firsts-pairs, each-pairs}
 use Rattle.laws.proofs.RisingEachLaws.{Climbs, rising-climbs, climbs-right}
+use Rattle.ranges.specs.declared.Segment.{Segment}
 use Rattle.ranges.specs.Steps.{closing, entriesOf}
-use Rattle.ranges.specs.Cutting.{nextCode, nextGlyph, rangesOf, runsOf, Cut, cutOf, present, cutRange, cuts, runDelta, firstCode, lastCode, segmentOf, segments, glyphs, arrayOf, glyphArray}
-use Rattle.ranges.proofs.CuttingLaws.{parts, Adjacent, linked-length, cuts-pairs, runs-each, cuts-each, cuts-adjacent, segments-closed}
-use Rattle.cut_lookup.specs.Lookup.{valueIn, lookupIn, glyphOf, codes, Fits, Listed}
+use Rattle.ranges.specs.Cutting.{nextCode, nextGlyph, rangesOf, runsOf, Cut, cutOf, present, cutRange, cuts, runDelta, firstCode, lastCode, segmentOf, lastEnd, segments, glyphs, arrayOf, glyphArray}
+use Rattle.ranges.proofs.CuttingLaws.{parts, Adjacent, linked-length, cuts-pairs, runs-each, cuts-each, cuts-adjacent}
+use Rattle.cut_lookup.proofs.FitsLaws.{Fit, cuts-fit, first-low}
+use Rattle.cut_lookup.specs.Lookup.{valueIn, lookupIn, unlisted, codes, Fits, Listed}
 
 -- ---- a run's delta tells its glyphs
 
@@ -68,47 +73,22 @@ cuts-told ps h = cuts-each Told ps (each-of (Each Fits) (λ (range : List Pair).
 
 -- ---- the glyph of a code point among the pairs
 
--- pairs of other code points are passed over
-listed-not : (ps qs : List Pair) (c : ℕ) → Each (λ (n : ℕ). n ≡ c → ⊥) (codes ps) → glyphOf (ps ++ qs) c ≡ glyphOf qs c
-unfolding glyphOf
-listed-not [] qs c h = refl
-listed-not (p ∷ ps) qs c h = rw (ne-eqb (p .0) c (h .0)) (listed-not ps qs c (h .1))
-
-listed-at : (ps qs : List Pair) (k : ℕ) → Linked nextCode ps → k < length ps → glyphOf (ps ++ qs) (firstCode ps + k) ≡ getD (glyphs ps) k 0
-unfolding glyphOf
-listed-at [] qs k h l = absurd h
-listed-at (p ∷ ps) qs zero h l = rw (eq-eqb (p .0) (p .0 + 0) (omega arith))
-listed-at (p ∷ []) qs (suc k) h l = absurd (omega arith)
-listed-at (p ∷ q ∷ ps) qs (suc k) h l =
-    let f = eqb-true (q .0) (p .0 + 1) (h .0) in
-    let e : p .0 + suc k ≡ q .0 + k = omega arith in
-    rw (ne-eqb (p .0) (p .0 + suc k) (λ z. omega arith), e) (listed-at (q ∷ ps) qs k (h .1) (omega arith))
-
 -- the code points of a cut lie below what lies past its last
-past-last : (ps : List Pair) (c : ℕ) → Linked nextCode ps → lastCode ps < c → Each (λ (n : ℕ). n ≡ c → ⊥) (codes ps)
+past-last : (ps : List Pair) (c : ℕ) → Linked nextCode ps → lastCode ps < c → Each (λ (p : Pair). p .0 ≡ c → ⊥) ps
 past-last [] c h l = absurd h
 past-last (p ∷ []) c h l = (λ e. omega arith, tt)
 past-last (p ∷ q ∷ ps) c h l = let e = linked-length (p ∷ q ∷ ps) h in ((λ z. omega arith), past-last (q ∷ ps) c (h .1) l)
 
--- what lies below the first of rising code points is not listed
-before-first : (ps : List Pair) (c : ℕ) → Climbs (codes ps) → c < firstCode ps → glyphOf ps c ≡ 0
+-- and those of rising ones above what lies before their first
+before-first : (ps : List Pair) (c : ℕ) → Climbs (codes ps) → c < firstCode ps → Each (λ (p : Pair). p .0 ≡ c → ⊥) ps
 before-first [] c h l = absurd (omega arith)
-before-first (p ∷ ps) c h l =
-    let others = each-of (λ (n : ℕ). p .0 < n) (λ (n : ℕ). n ≡ c → ⊥) (λ n k e. omega arith) (codes ps) (h .0) in
-    rw (append-nil ps) at (listed-not (p ∷ ps) [] c ((λ e. omega arith), others)) ∙ unfold glyphOf in refl
+before-first (p ∷ ps) c h l = (λ e. omega arith, each-of (λ (q : Pair). p .0 < q .0) (λ (q : Pair). q .0 ≡ c → ⊥) (λ q k e. omega arith) ps (each-mapped (λ (n : ℕ). p .0 < n) (λ (q : Pair). q .0) ps (h .0)))
 
 first-append : (ps qs : List Pair) → Filled ps → firstCode (ps ++ qs) ≡ firstCode ps
 first-append [] qs h = absurd h
 first-append (p ∷ ps) qs h = refl
 
 -- ---- the lookup
-
-closing-none : (array : List ℕ) (t : Bool) (c : ℕ) → c < 65536 → lookupIn array (closing t) c ≡ 0
-unfolding lookupIn
-closing-none array false c h = refl
-closing-none array true c h = by-leb _ 65535 c
-    (λ k. rw (le-leb c 65535 (omega arith), le-leb 65535 c k) (omega arith))
-    (λ k. rw (le-leb c 65535 (omega arith), lt-leb 65535 c k))
 
 module _ (x : Cut) (array : List ℕ) (a : Adjacent x) where
   -- the entries of one cut are passed over with it
@@ -120,46 +100,81 @@ module _ (x : Cut) (array : List ℕ) (a : Adjacent x) where
       go false = refl
 
   -- the k-th code point of a cut
-  value-at : (rest : List Pair) → Told x → (k : ℕ) → k < length (x .pairs) → valueIn (arrayOf x ++ array) (segmentOf x) (firstCode (x .pairs) + k) ≡ glyphOf (x .pairs ++ rest) (firstCode (x .pairs) + k)
-  value-at rest told k l =
+  value-at : Told x → (k : ℕ) → k < length (x .pairs) → valueIn (arrayOf x ++ array) (segmentOf x) (firstCode (x .pairs) + k) ≡ getD (glyphs (x .pairs)) k 0
+  value-at told k l =
       let e : firstCode (x .pairs) + k - firstCode (x .pairs) ≡ k = omega arith in
-      rw (listed-at (x .pairs) rest k a l, e) (go (eqb (x .delta) 0) refl)
+      rw e (go (eqb (x .delta) 0) refl)
     where
       go : (t : Bool) → eqb (x .delta) 0 ≡ t
           → pick t (getD (pick t (glyphs (x .pairs)) [] ++ array) k 0) ((firstCode (x .pairs) + k + x .delta) % 65536) ≡ getD (glyphs (x .pairs)) k 0
       go true d = List·getD-append (glyphs (x .pairs)) array 0 k (omega (arith, length-map (x .pairs) (λ (p : Pair). p .1)))
       go false d = told (eqb-false (x .delta) 0 d) k l
 
-  value-in : (rest : List Pair) → Told x → (c : ℕ) → firstCode (x .pairs) ≤ c → c ≤ lastCode (x .pairs) → valueIn (arrayOf x ++ array) (segmentOf x) c ≡ glyphOf (x .pairs ++ rest) c
-  value-in rest told c f l =
+module _ {A : Type 0} (none : A) (glyph : ℕ → A) where
+  listed-at : (ps qs : List Pair) (k : ℕ) → Linked nextCode ps → k < length ps → listed none glyph (ps ++ qs) (firstCode ps + k) ≡ glyph (getD (glyphs ps) k 0)
+  unfolding listed
+  listed-at [] qs k h l = absurd h
+  listed-at (p ∷ ps) qs zero h l = rw (eq-eqb (p .0) (p .0 + 0) (omega arith))
+  listed-at (p ∷ []) qs (suc k) h l = absurd (omega arith)
+  listed-at (p ∷ q ∷ ps) qs (suc k) h l =
+      let f = eqb-true (q .0) (p .0 + 1) (h .0) in
+      let e : p .0 + suc k ≡ q .0 + k = omega arith in
+      rw (ne-eqb (p .0) (p .0 + suc k) (λ z. omega arith), e) (listed-at (q ∷ ps) qs k (h .1) (omega arith))
+
+  value-in : (x : Cut) (array : List ℕ) (rest : List Pair) → Adjacent x → Told x → (c : ℕ) → firstCode (x .pairs) ≤ c → c ≤ lastCode (x .pairs)
+      → glyph (valueIn (arrayOf x ++ array) (segmentOf x) c) ≡ listed none glyph (x .pairs ++ rest) c
+  value-in x array rest a told c f l =
       let n = linked-length (x .pairs) a in
-      let e : firstCode (x .pairs) + (c - firstCode (x .pairs)) ≡ c = omega arith in
-      rw e at (value-at rest told (c - firstCode (x .pairs)) (omega arith))
+      let k = c - firstCode (x .pairs) in
+      let e : firstCode (x .pairs) + k ≡ c = omega arith in
+      let m : k < length (x .pairs) = omega arith in
+      rw e at (ap glyph (value-at x array a told k m) ∙ sym (listed-at (x .pairs) rest k a m))
 
-cuts-find : (cs : List Cut) (t : Bool) (c : ℕ) → c < 65536 → Climbs (codes (concat (parts cs))) → Each Adjacent cs → Each Told cs
-    → lookupIn (concat (map arrayOf cs)) (map segmentOf cs ++ closing t) c ≡ glyphOf (concat (parts cs)) c
-unfolding lookupIn concat
-cuts-find [] t c h r a d = closing-none [] t c h ∙ unfold glyphOf in refl
-cuts-find (x ∷ cs) t c h r a d =
-    let ps = x .pairs in
-    let rest = concat (parts cs) in
-    let array = concat (map arrayOf cs) in
-    let P : ℕ → Type 0 = λ n. n ≡ glyphOf (ps ++ rest) c in
-    let value = valueIn (arrayOf x ++ array) (segmentOf x) c in
-    by-pick P (leb c (lastCode ps)) (pick (leb (firstCode ps) c) value 0) (lookupIn (drop (entriesOf (segmentOf x)) (arrayOf x ++ array)) (map segmentOf cs ++ closing t) c)
-    (λ e. by-pick P (leb (firstCode ps) c) value 0
-    (λ f. value-in x array (a .0) rest (d .0) c (leb-true (firstCode ps) c f) (leb-true c (lastCode ps) e))
-    (λ f. sym (before-first (ps ++ rest) c r (rw (first-append ps rest (linked-filled nextCode ps (a .0))) (leb-false (firstCode ps) c f)))))
-    (λ e. rw (drop-entries x array (a .0), listed-not ps rest c (past-last ps c (a .0) (leb-false c (lastCode ps) e)))
-    (cuts-find cs t c h (climbs-right (codes ps) (codes rest) (rw (map-append (λ (p : Pair). p .0) ps rest) at r)) (a .1) (d .1)))
+module _ {A : Type 0} (none : A) (glyph : ℕ → A) (c : ℕ) (small : c < 65536) where
+  closing-finds : (array : List ℕ) → lookupIn none glyph array (closing true) c ≡ unlisted none glyph c
+  unfolding lookupIn
+  closing-finds array =
+      by-leb (lookupIn none glyph array (closing true) c ≡ unlisted none glyph c) 65535 c
+      (λ k. let e : c ≡ 65535 = omega arith in rw e)
+      (λ k. rw (le-leb c 65535 (omega arith), lt-leb 65535 c k, ne-eqb c 65535 (λ e. omega arith)))
 
--- the key fact: a code point is found with its listed glyph, and with 0 where none is listed
-pub segments-find : (ps : List Pair) (c : ℕ) → Listed ps → c < 65536 → lookupIn (glyphArray ps) (segments ps) c ≡ glyphOf ps c
-unfolding glyphArray
-segments-find ps c l h =
-    let r = rising-climbs (codes ps) (l .rising) in
-    let f = cuts-find (cuts ps) (not (eqb (lastCode ps) 65535)) c h (rw (cuts-pairs ps) r) (cuts-adjacent ps) (cuts-told ps (l .fits)) in
-    rw (segments-closed ps) (rw (cuts-pairs ps) at f)
+  -- past the first segment
+  reach-next : (x : Segment) (ss : List Segment) → c ≤ lastEnd (x ∷ ss) → x .end < c → c ≤ lastEnd ss
+  reach-next x [] h l = absurd (omega arith)
+  reach-next x (y ∷ ss) h l = h
+
+  -- where no closing segment follows, the last end reaches c
+  cuts-find : (cs : List Cut) (t : Bool) → (t ≡ false → c ≤ lastEnd (map segmentOf cs)) → Climbs (codes (concat (parts cs))) → Each Adjacent cs → Each Told cs → Each Fit cs
+      → lookupIn none glyph (concat (map arrayOf cs)) (map segmentOf cs ++ closing t) c ≡ listed (unlisted none glyph c) glyph (concat (parts cs)) c
+  unfolding lookupIn concat
+  cuts-find [] true z r a d f = closing-finds [] ∙ sym (listed-none (unlisted none glyph c) glyph [] c tt)
+  cuts-find [] false z r a d f = let l = z refl in rw (listed-none (unlisted none glyph c) glyph [] c tt, ne-eqb c 65535 (λ e. omega arith))
+  cuts-find (x ∷ cs) t z r a d f =
+      let ps = x .pairs in
+      let rest = concat (parts cs) in
+      let array = concat (map arrayOf cs) in
+      let P : A → Type 0 = λ n. n ≡ listed (unlisted none glyph c) glyph (ps ++ rest) c in
+      let value = glyph (valueIn (arrayOf x ++ array) (segmentOf x) c) in
+      by-pick P (leb c (lastCode ps)) (pick (leb (firstCode ps) c) value none) (lookupIn none glyph (drop (entriesOf (segmentOf x)) (arrayOf x ++ array)) (map segmentOf cs ++ closing t) c)
+      (λ e. by-pick P (leb (firstCode ps) c) value none
+      (λ g. value-in (unlisted none glyph c) glyph x array rest (a .0) (d .0) c (leb-true (firstCode ps) c g) (leb-true c (lastCode ps) e))
+      (λ g.
+      let l = leb-false (firstCode ps) c g in
+      let b = first-low ps (f .0) in
+      rw (listed-none (unlisted none glyph c) glyph (ps ++ rest) c (before-first (ps ++ rest) c r (rw (first-append ps rest (linked-filled nextCode ps (a .0))) l)), ne-eqb c 65535 (λ e. omega arith))))
+      (λ e.
+      let l = leb-false c (lastCode ps) e in
+      rw (drop-entries x array (a .0), listed-not (unlisted none glyph c) glyph ps rest c (past-last ps c (a .0) l))
+      (cuts-find cs t (λ k. reach-next (segmentOf x) (map segmentOf cs) (z k) l) (climbs-right (codes ps) (codes rest) (rw (map-append (λ (p : Pair). p .0) ps rest) at r)) (a .1) (d .1) (f .1)))
+
+  -- the key fact: a code point is found with its listed glyph; none is found where none is listed, but at 0xFFFF glyph 0
+  pub segments-find : (ps : List Pair) → Listed ps → lookupIn none glyph (glyphArray ps) (segments ps) c ≡ listed (unlisted none glyph c) glyph ps c
+  unfolding glyphArray segments
+  segments-find ps l =
+      let r = rising-climbs (codes ps) (l .rising) in
+      let ss = map segmentOf (cuts ps) in
+      let z : not (eqb (lastEnd ss) 65535) ≡ false → c ≤ lastEnd ss = λ e. let h = eqb-true (lastEnd ss) 65535 (true-of-not (eqb (lastEnd ss) 65535) e) in omega arith in
+      rw (cuts-pairs ps) at (cuts-find (cuts ps) (not (eqb (lastEnd ss) 65535)) z (rw (cuts-pairs ps) r) (cuts-adjacent ps) (cuts-told ps (l .fits)) (cuts-fit ps (l .fits)))
 
 -- two slices of equal length as pairs that a table can hold
 pub listed-pairs : (cs gs : List ℕ) → length cs ≡ length gs → Rising cs → Each (λ (n : ℕ). n < 65536) cs → Each (λ (n : ℕ). n < 65536) gs → Listed (pairs cs gs)

@@ -1,4 +1,5 @@
 -- Looking a code point up in segments and their glyph array (01, "Heads"), and what is asked of the pairs they were cut from.
+-- What is found is told by `none`, nothing there, and `glyph`, a glyph there, which may be 0.
 use Prim.Native.Nat.{ℕ, _+_, _-_, _%_, _<_}
 use mathlib.Core.List.{List, [], _∷_, map}
 use lib.Dec.{eqb, leb}
@@ -14,15 +15,16 @@ use Rattle.ranges.specs.Steps.{entriesOf}
 abbrev pub valueIn : List ℕ → Segment → ℕ → ℕ
 valueIn array x c = pick (eqb (x .delta) 0) (getD array (c - x .start) 0) ((c + x .delta) % 65536)
 
--- "first segment with end at least c; 0 if none, if start exceeds c"
-unfoldable pub lookupIn : List ℕ → List Segment → ℕ → ℕ
-lookupIn array [] c = 0
-lookupIn array (x ∷ xs) c = pick (leb c (x .end)) (pick (leb (x .start) c) (valueIn array x c) 0) (lookupIn (drop (entriesOf x) array) xs c)
+-- "first segment with end at least c"; none if there is none, or if its start exceeds c
+unfoldable pub lookupIn : {A : Type 0} → A → (ℕ → A) → List ℕ → List Segment → ℕ → A
+lookupIn none glyph array [] c = none
+lookupIn none glyph array (x ∷ xs) c =
+    let r = lookupIn none glyph (drop (entriesOf x) array) xs c in
+    pick (leb c (x .end)) (pick (leb (x .start) c) (glyph (valueIn array x c)) none) r
 
--- the glyph that the pairs list for a code point; 0 where they list none
-unfoldable pub glyphOf : List Pair → ℕ → ℕ
-glyphOf [] c = 0
-glyphOf (p ∷ ps) c = pick (eqb (p .0) c) (p .1) (glyphOf ps c)
+-- at a code point that is not listed: none, but at 0xFFFF, where a segment always ends, glyph 0
+abbrev pub unlisted : {A : Type 0} → A → (ℕ → A) → ℕ → A
+unlisted none glyph c = pick (eqb c 65535) (glyph 0) none
 
 abbrev pub codes : List Pair → List ℕ
 codes ps = map (λ (p : Pair). p .0) ps

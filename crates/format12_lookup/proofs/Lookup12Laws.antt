@@ -8,6 +8,7 @@ use lib.Dec.{leb}
 use lib.ListN.{length, getD, take, drop}
 use lib.Seq.{sets, sets-eq, length-take-le}
 use Rattle.laws.specs.Choice.{ifLt}
+use Rattle.laws.specs.Listed.{listed}
 use Rattle.laws.specs.Search.{first}
 use Rattle.laws.proofs.ChoiceLaws.{by-leb, if-lt, else-lt}
 use Rattle.laws.proofs.TestLaws.{ifLt-suc}
@@ -16,7 +17,7 @@ use borrow.Author.Tests.{le-leb, lt-leb}
 use Rattle.laws.specs.Lists.{Pair}
 use Rattle.format12.specs.Format12.{group, groups, format12}
 use Rattle.format12.specs.declared.Group.{Group}
-use Rattle.format12_lookup.specs.Lookup.{inGroup, lookupIn, listed, Above, groupAt, lookup12}
+use Rattle.format12_lookup.specs.Lookup.{inGroup, lookupIn, Above, groupAt, lookup12}
 use Rattle.format12_lookup.proofs.LookupLaws.{lookup-groups}
 use Rattle.format12_lookup.proofs.BytesLaws.{format12-group}
 

@@ -8,6 +8,7 @@ use lib.Dec.{leb}
 use lib.ListN.{length, getD}
 use Rattle.laws.specs.Choice.{pick, ifLt, ifLe}
 use Rattle.laws.specs.Lists.{Pair, pairs, Rising}
+use Rattle.laws.specs.Listed.{listed}
 use Rattle.laws.specs.Pieces.{concat}
 use Rattle.laws.proofs.ChoiceLaws.{by-leb, if-lt, else-lt, if-le}
 use Rattle.laws.proofs.RisingLaws.{rising-tail}
@@ -17,7 +18,7 @@ use Rattle.number.specs.Limits.{unicodeMax}
 use Rattle.format12.specs.declared.Group.{Group}
 use Rattle.format12.specs.Format12.{consecutive, group, groupOf, grouped, groups}
 use Rattle.format12.proofs.GroupsLaws.{consecutive-next, joined-level, last-joined}
-use Rattle.format12_lookup.specs.Lookup.{inGroup, lookupIn, listed, Above, above-none, above-more}
+use Rattle.format12_lookup.specs.Lookup.{inGroup, lookupIn, Above, above-none, above-more}
 
 -- ---- rising pairs
 

@@ -1,9 +1,9 @@
--- What a lookup finds in groups (docs/01-rules.md, "Heads", format 12), and what the pairs list.
--- Both are told by `none`, nothing there, and `glyph`, a glyph there, which may be 0.
+-- What a lookup finds in groups (docs/01-rules.md, "Heads", format 12), and what is asked of the pairs.
+-- What is found is told by `none`, nothing there, and `glyph`, a glyph there, which may be 0.
 use Prim.Native.Nat.{ℕ, suc, _+_, _-_, _*_, _≤_}
 use mathlib.Core.Path.{_≡_}
 use mathlib.Core.List.{List, [], _∷_}
-use lib.Dec.{leb, eqb}
+use lib.Dec.{leb}
 use Rattle.laws.specs.Choice.{pick, ifLt, ifLe}
 use Rattle.laws.specs.Search.{first}
 use Rattle.laws.specs.Lists.{Pair}
@@ -22,11 +22,6 @@ inGroup none glyph g c =
 unfoldable pub lookupIn : {A : Type 0} → A → (ℕ → A) → List Group → ℕ → A
 lookupIn none glyph [] c = none
 lookupIn none glyph (g ∷ gs) c = let r = lookupIn none glyph gs c in pick (leb c (g .end)) (inGroup none glyph g c) r
-
--- the glyph of the pair whose code point is c
-unfoldable pub listed : {A : Type 0} → A → (ℕ → A) → List Pair → ℕ → A
-listed none glyph [] c = none
-listed none glyph (p ∷ ps) c = let r = listed none glyph ps c in pick (eqb (p .0) c) (glyph (p .1)) r
 
 -- "code points strictly rising, at most 0x10FFFF", here from lo on; glyphs of 16 bits
 pub data Above : ℕ → List Pair → Type 0 where

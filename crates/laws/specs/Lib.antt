@@ -5,3 +5,4 @@ pub mod Pieces
 pub mod Select
 pub mod Linked
 pub mod Same
+pub mod Listed

@@ -1,0 +1,94 @@
+-- A written format 4 subtable is readable, as itself: its language, its number of segments, and its own length.
+use Prim.Native.Nat.{ℕ, _+_, _*_, _≤_, _<_}
+use mathlib.Core.Path.{_≡_, refl, sym, ap, subst, _∙_}
+use mathlib.Core.List.{List, [], _∷_, _++_}
+use native.Mathlib.Omega.{arith}
+use borrow.Author.Tests.{leb-true}
+use lib.Dec.{leb}
+use lib.ListN.{length}
+use lib.Seq.{sets}
+use Rattle.laws.specs.Lists.{Pair}
+use Rattle.laws.proofs.ChoiceLaws.{by-pick}
+use Rattle.laws.proofs.StandsLaws.{Stands, stands-append, stands-sets}
+use Rattle.number.specs.BigEndian.{be}
+use Rattle.ranges.specs.Cutting.{segments, glyphArray}
+use Rattle.source.specs.declared.Kind.the-variants.{Format4}
+use Rattle.source.specs.Kind as source
+use Rattle.source.proofs.KindLaws.{gives4, Readable4}
+use Rattle.source.proofs.StandsLaws.{kind-stands}
+use Rattle.format4.specs.Format4.{lengthWith, header, format4}
+use Rattle.format4.specs.declared.RangeCounter.{RangeCounter}
+use Rattle.format4.specs.declared.Size.{Size}
+use Rattle.format4.specs.declared.Size.the-variants.{Empty, TooLong, Fits}
+use Rattle.format4.specs.Size.{sizeOf, countOf, lengthOf}
+use Rattle.format4.proofs.Format4Laws.{length-format4}
+use Rattle.cut_lookup.proofs.FitsLaws.{segments-some}
+use Rattle.format4_lookup.specs.Lookup.{Written}
+use Rattle.format4_lookup.proofs.ColumnsAtLaws.{segments-are, array-is, format4-numbers, number-at}
+
+module _ (language : ℕ) (ps : List Pair) where
+  abbrev T : List ℕ
+  T = format4 language ps
+
+  abbrev S : ℕ
+  S = length (segments ps)
+
+  pub length-is : length T ≡ 16 + 8 * S + 2 * length (glyphArray ps)
+  length-is = length-format4 language ps ∙ rw (array-is ps, segments-are ps)
+
+  pub format4-readable : Written language ps → Readable4 T 0 language S (length T)
+  unfolding header
+  format4-readable w =
+      let n = number-at language (segments ps) (glyphArray ps) in
+      let e = length-is in
+      let h = w .short in
+      let four : be 2 T 0 ≡ 4 = rw (format4-numbers language ps) (n 0 0 4 refl refl (omega arith)) in
+      let long : be 2 T 2 ≡ length T = rw (format4-numbers language ps) (n 2 1 (lengthWith S (length (glyphArray ps))) refl refl (omega arith)) ∙ sym e in
+      let tongue : be 2 T 4 ≡ language = rw (format4-numbers language ps) (n 4 2 language refl refl (w .language-fits)) in
+      let twice : be 2 T 6 ≡ 2 * S = rw (format4-numbers language ps) (n 6 3 (2 * S) refl refl (omega arith)) in
+      let some = segments-some ps in
+      record {
+        language = sym tongue;
+        segments = omega arith;
+        long = sym long;
+        header = omega arith;
+        four = four;
+        even = omega arith;
+        some = some;
+        room = omega arith;
+        fits = omega arith;
+      }
+
+  pub format4-kind : Written language ps → source.kindAt T 0 ≡ Format4 language S (length T)
+  format4-kind w = sym (gives4 T 0 (format4-readable w))
+
+  -- wherever it stands
+  module _ {xs : List ℕ} {at : ℕ} (st : Stands xs at T) (w : Written language ps) where
+    pub format4-kind-stands : source.kindAt xs at ≡ Format4 language S (length T)
+    format4-kind-stands = kind-stands st (omega (arith, length-is)) (ap source.lengthOf (format4-kind w)) ∙ format4-kind w
+
+  pub format4-kind-between : (front back : List ℕ) → Written language ps → source.kindAt (front ++ (T ++ back)) (length front) ≡ Format4 language S (length T)
+  format4-kind-between front back w = format4-kind-stands (stands-append front T back) w
+
+  -- in what a writer leaves
+  pub format4-kind-sets : (out : List ℕ) (at : ℕ) → at + length T ≤ length out → Written language ps → source.kindAt (sets out at T) at ≡ Format4 language S (length T)
+  format4-kind-sets out at h w = format4-kind-stands (stands-sets out at T h) w
+
+-- ---- a size that fits
+
+module _ (language : ℕ) (ps : List Pair) where
+  abbrev Told : Size → Type 0
+  Told Empty = Unit {0}
+  Told TooLong = Unit {0}
+  Told (Fits n) = length (format4 language ps) ≤ 65535
+
+sized : (language : ℕ) (ps : List Pair) → Told language ps (sizeOf ps)
+unfolding sizeOf
+sized language [] = tt
+sized language (p ∷ ps) =
+    by-pick (Told language (p ∷ ps)) (leb (lengthOf (countOf (p ∷ ps))) 65535) (Fits (countOf (p ∷ ps))) TooLong
+    (λ e. rw (length-format4 language (p ∷ ps)) (leb-true (lengthOf (countOf (p ∷ ps))) 65535 e)) (λ _. tt)
+
+-- where the size is found to fit, the subtable can be written
+pub fits-written : {n : RangeCounter} (language : ℕ) (ps : List Pair) → sizeOf ps ≡ Fits n → language < 65536 → Written language ps
+fits-written language ps e h = record { short = subst (Told language ps) e (sized language ps); language-fits = h }

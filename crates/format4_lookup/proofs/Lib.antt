@@ -1,0 +1,5 @@
+pub mod ColumnsAtLaws
+pub mod Format4KindLaws
+pub mod ColumnsFindLaws
+pub mod Format4FindsLaws
+pub mod LoneLaws
