@@ -1,4 +1,6 @@
 // Which code points a format 12 subtable maps: asked for one, and for all of a rising list at once.
+use number::limits::CodePoint;
+
 ghost use mathlib.Core.Path.{_≡_};
 ghost use Prim.Native.Nat.{_+_, _*_, _≤_, _<_, min};
 ghost use lib.ListN.{length};
@@ -32,7 +34,7 @@ fn clip(start: u32, end: u32, glyph: u32, n: u32) -> Stretch
     if glyph + end - start < n {
         return Stretch { start, end };
     }
-    let last = least(0x10FFFF, start + n - glyph);
+    let last = least(CodePoint::UNICODE_MAX, start + n - glyph);
     Stretch { start, end: last }
 }
 
@@ -41,7 +43,7 @@ fn cut(start: u32, end: u32, glyph: u32, n: u32) -> Stretch
     requires { ⌜ n < 65536 ⌝ }
     ensures { λ r. ⌜ r ≡ cut12 start end glyph n ⌝ }
 {
-    let last = least(end, 0x10FFFF);
+    let last = least(end, CodePoint::UNICODE_MAX);
     if last < start {
         return Stretch { start: 1, end: 0 };
     }
