@@ -1,6 +1,5 @@
 // Which code points a format 12 subtable maps: asked for one, and for all of a rising list at once.
 use number::limits::CodePoint;
-
 ghost use mathlib.Core.Path.{_≡_};
 ghost use Prim.Native.Nat.{_+_, _*_, _≤_, _<_, min};
 ghost use lib.ListN.{length};
@@ -93,10 +92,11 @@ fn mark_groups(s: &[u8], at: usize, groups: usize, n: u32, points: &[u32], flags
     requires { ⌜ Cleared (length (now points)) (now flags) ⌝ }
     ensures { λ _. ⌜ now (flags .exit) ≡ sets (now (flags .entry)) 0 (flagged (maps12 (now (s .entry)) at groups n) (now (points .entry))) ⌝ }
 {
+    let mut near = 0;
     let mut g = 0;
     while g < groups {
         let stretch = group_at(s, at, g, n);
-        marks::mark_points(flags, points, stretch.start, stretch.end);
+        near = marks::mark_points_near(flags, points, stretch.start, stretch.end, near);
         g += 1;
     }
 }

@@ -57,6 +57,17 @@ pub record Bound (ps : List ℕ) (c r : ℕ) : Type 0 where
   pub is : r ≡ below ps c
   pub within : r ≤ length ps
 
+-- the count is known to lie between low and high
+pub record Halving (ps : List ℕ) (c low high : ℕ) : Type 0 where
+  pub least : low ≤ below ps c
+  pub most : below ps c ≤ high
+  pub within : high ≤ length ps
+
+-- the count is known to be low or more
+pub record AtLeast (ps : List ℕ) (c low : ℕ) : Type 0 where
+  pub least : low ≤ below ps c
+  pub within : low ≤ length ps
+
 -- a flag for each point
 pub record Flags (ps fs : List ℕ) : Type 0 where
   pub rising : Rising ps
