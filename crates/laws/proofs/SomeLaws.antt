@@ -1,6 +1,6 @@
 -- Whether some place passes, asked one place further; and a choice whose two ways agree.
 use Prim.Native.Nat.{ℕ, zero, suc, _+_}
-use mathlib.Core.Path.{_≡_, refl, sym, _∙_}
+use mathlib.Core.Path.{_≡_, refl}
 use mathlib.Core.Bool.{Bool, true, false}
 use native.Mathlib.Nat.{add-zero}
 use native.Mathlib.Omega.{arith}

@@ -6,11 +6,11 @@ use mathlib.Core.Bool.{Bool, true, false}
 use native.Mathlib.Nat.{not-suc-le-zero, zero-add, sub-zero}
 use native.Mathlib.Numerals.{add-one}
 use native.Mathlib.Omega.{arith}
-use lib.Dec.{ltb, leb, eqb}
+use lib.Dec.{eqb}
 use lib.ListN.{length, getD, drop, set, replicate, length-set, length-replicate, drop-of-length-le}
 use lib.Seq.{sets, length-sets, drop-cons}
 use borrow.Author.Tests.{lt-ltb, le-ltb, le-leb, lt-leb, eq-eqb, ne-eqb}
-use Rattle.laws.specs.Choice.{pick, both}
+use Rattle.laws.specs.Choice.{pick}
 use Rattle.laws.specs.Lists.{Rising, keep}
 use Rattle.laws.proofs.ChoiceLaws.{by-leb}
 use Rattle.laws.proofs.RisingLaws.{rising-tail}
