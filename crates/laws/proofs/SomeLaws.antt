@@ -8,7 +8,7 @@ use native.Mathlib.Omega.{arith}
 use lib.Dec.{eqb}
 use Rattle.laws.specs.Choice.{pick, either, ifEq}
 use Rattle.laws.specs.Search.{some}
-use Rattle.laws.proofs.ChoiceLaws.{false-true}
+use Rattle.laws.proofs.EitherLaws.{neither-left, neither-right}
 
 either-pick : (a b r : Bool) → either a (pick b true r) ≡ pick b true (either a r)
 either-pick true true r = refl
@@ -32,16 +32,14 @@ some-snoc p n =
     let e : 0 + n ≡ n = omega arith in
     rw e at (some-from p n 0)
 
-pub either-false : (a b : Bool) → either a b ≡ false → (a ≡ false) × (b ≡ false)
-either-false true b e = absurd (false-true (sym e))
-either-false false b e = (refl, e)
-
 pub some-false : (p : ℕ → Bool) (n i : ℕ) → some p n i ≡ false → (k : ℕ) → i ≤ k → k < i + n → p k ≡ false
 unfolding some
 some-false p zero i e k a b = absurd (omega arith)
 some-false p (suc n) i e k a b =
-    let q = either-false (p i) (some p n (i + 1)) e in
-    ⊎-elim (λ (s : i ≡ k). ap p (sym s) ∙ q .0) (λ (s : i < k). some-false p n (i + 1) (q .1) k (omega arith) (omega arith)) (eq-or-lt-of-le a)
+    ⊎-elim
+    (λ (s : i ≡ k). ap p (sym s) ∙ neither-left (p i) (some p n (i + 1)) e)
+    (λ (s : i < k). some-false p n (i + 1) (neither-right (p i) (some p n (i + 1)) e) k (omega arith) (omega arith))
+    (eq-or-lt-of-le a)
 
 pub each-eq : {A : Type 0} {z : A} (a b : ℕ) (x y : A) → z ≡ x → z ≡ y → z ≡ ifEq a b x y
 unfolding ifEq

@@ -1,4 +1,5 @@
 // Which code points a format 12 subtable maps: asked for one, and for all of a rising list at once.
+use number::limits::CodePoint;
 ghost use mathlib.Core.Path.{_≡_};
 ghost use Prim.Native.Nat.{_+_, _*_, _≤_, _<_, min};
 ghost use lib.ListN.{length};
@@ -32,7 +33,7 @@ fn clip(start: u32, end: u32, glyph: u32, n: u32) -> Stretch
     if glyph + end - start < n {
         return Stretch { start, end };
     }
-    let last = least(0x10FFFF, start + n - glyph);
+    let last = least(CodePoint::UNICODE_MAX, start + n - glyph);
     Stretch { start, end: last }
 }
 
@@ -41,7 +42,7 @@ fn cut(start: u32, end: u32, glyph: u32, n: u32) -> Stretch
     requires { ⌜ n < 65536 ⌝ }
     ensures { λ r. ⌜ r ≡ cut12 start end glyph n ⌝ }
 {
-    let last = least(end, 0x10FFFF);
+    let last = least(end, CodePoint::UNICODE_MAX);
     if last < start {
         return Stretch { start: 1, end: 0 };
     }
@@ -91,10 +92,11 @@ fn mark_groups(s: &[u8], at: usize, groups: usize, n: u32, points: &[u32], flags
     requires { ⌜ Cleared (length (now points)) (now flags) ⌝ }
     ensures { λ _. ⌜ now (flags .exit) ≡ sets (now (flags .entry)) 0 (flagged (maps12 (now (s .entry)) at groups n) (now (points .entry))) ⌝ }
 {
+    let mut near = 0;
     let mut g = 0;
     while g < groups {
         let stretch = group_at(s, at, g, n);
-        marks::mark_points(flags, points, stretch.start, stretch.end);
+        near = marks::mark_points_near(flags, points, stretch.start, stretch.end, near);
         g += 1;
     }
 }

@@ -1,21 +1,20 @@
 -- A walk over the segments of a format 4 subtable: for one code point, and for the flags of many.
-use Prim.Native.Nat.{ℕ, suc, _+_, _*_, _<_, _≤_}
-use mathlib.Core.Path.{_≡_, refl, sym, ap, _∙_}
+use Prim.Native.Nat.{ℕ, _+_, _*_, _<_, _≤_}
+use mathlib.Core.Path.{_≡_, refl, ap, _∙_}
 use mathlib.Core.List.{List}
-use mathlib.Core.Bool.{Bool, true, false}
+use mathlib.Core.Bool.{Bool, false}
 use native.Mathlib.Numerals.{add-one}
-use native.Mathlib.Omega.{arith}
 use lib.Seq.{sets}
-use lib.ListN.{length, replicate}
-use borrow.Author.Tests.{eq-eqb, ne-eqb, le-leb, lt-leb}
-use Rattle.laws.specs.Choice.{pick, both}
+use lib.ListN.{length}
+use borrow.Author.Tests.{eq-eqb, ne-eqb}
+use Rattle.laws.specs.Choice.{pick}
 use Rattle.laws.specs.Search.{first}
 use Rattle.laws.proofs.SearchLaws.{Looking, looking-start, looking-on, looking-found, looking-none}
 use Rattle.number.specs.BigEndian.{Num}
 use Rattle.marks.specs.Marks.{flagged, painted, Flags, Cleared}
 use Rattle.marks.proofs.MarksLaws.{Saying, saying-none, saying-on, flagged-ext}
 use Rattle.mapped4.specs.declared.Segment.{Segment}
-use Rattle.mapped4.specs.Mapped4.{Read4, segment4, stops4, holds4, says4, lastSays, among4, maps4}
+use Rattle.mapped4.specs.Mapped4.{Read4, stops4, holds4, says4, lastSays, among4, maps4}
 
 -- ---- a segment
 

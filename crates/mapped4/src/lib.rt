@@ -4,7 +4,7 @@ ghost use Prim.Native.Nat.{_+_, _*_, _≤_, _<_};
 ghost use lib.ListN.{length};
 ghost use lib.Seq.{sets};
 ghost use Rattle.laws.specs.Choice.{pick};
-ghost use Rattle.marks.specs.Marks.{flagged, flagOf, painted, Flags, Inside, Cleared};
+ghost use Rattle.marks.specs.Marks.{flagged, flagOf, painted, Bound, Flags, Inside, Cleared};
 ghost use Rattle.mapped4.specs.Mapped4.{Room4, Read4, entry4, says4, holds4, maps4};
 
 pub struct Segment {
@@ -127,7 +127,8 @@ fn flag_of(mapped: bool) -> u8
     0
 }
 
-// Segment i's word on the points that it holds, written over what earlier segments said.
+// Segment i's word on the points that it holds, written over what earlier segments said; how many points are at most its end.
+// The walk hands that number on as `near`, where the next segment's points most likely begin.
 fn mark_segment(
     s: &[u8],
     at: usize,
@@ -137,21 +138,24 @@ fn mark_segment(
     segment: Segment,
     points: &[u32],
     flags: &mut [u8],
-)
+    near: usize,
+) -> usize
     requires { ⌜ Room4 (now s) at segs len ⌝ }
     requires { ⌜ Read4 (now s) at segs i segment ⌝ }
     requires { ⌜ i < segs ⌝ }
     requires { ⌜ Flags (now points) (now flags) ⌝ }
+    ensures { λ r. ⌜ Bound (now (points .entry)) (segment .end + 1) r ⌝ }
     ensures { λ _. ⌜ now (flags .exit) ≡ painted (holds4 segment) (says4 (now (s .entry)) at segs len i segment) (now (points .entry)) (now (flags .entry)) ⌝ }
 {
-    let low = marks::lower_bound(points, segment.start);
-    let high = marks::upper_bound(points, segment.end);
+    let low = marks::count_near(points, segment.start as u64, near);
+    let high = marks::count_near(points, segment.end as u64 + 1, low);
     let mut j = low;
     while j < high {
         let c = points[j];
         flags[j] = flag_of(segment_maps(s, at, segs, len, i, segment, c));
         j += 1;
     }
+    high
 }
 
 // The walk over the segments, from flags that are clear.
@@ -161,13 +165,14 @@ fn mark_segments(s: &[u8], at: usize, segs: usize, len: usize, points: &[u32], f
     requires { ⌜ Cleared (length (now points)) (now flags) ⌝ }
     ensures { λ _. ⌜ now (flags .exit) ≡ sets (now (flags .entry)) 0 (flagged (maps4 (now (s .entry)) at segs len) (now (points .entry))) ⌝ }
 {
+    let mut near = 0;
     let mut i = 0;
     while i < segs {
         let segment = segment_at(s, at, segs, i);
         if segment.start == Segment::WALK_END {
             return;
         }
-        mark_segment(s, at, segs, len, i, segment, points, flags);
+        near = mark_segment(s, at, segs, len, i, segment, points, flags, near);
         i += 1;
     }
 }

@@ -1,6 +1,6 @@
 -- How many numbers of a rising list lie below a bound: what one look tells, a search by halving, and membership.
 use Prim.Native.Nat.{ℕ, zero, suc, _+_, _-_, _/_, _<_, _≤_}
-use mathlib.Core.Path.{_≡_, refl, sym, ap, _∙_}
+use mathlib.Core.Path.{_≡_, refl, sym}
 use mathlib.Core.List.{List, [], _∷_}
 use mathlib.Core.Bool.{Bool, true, false}
 use native.Mathlib.Nat.{not-suc-le-zero}
@@ -8,12 +8,12 @@ use native.Mathlib.Omega.{arith}
 use lib.Dec.{ltb, eqb}
 use lib.ListN.{length, getD}
 use borrow.Author.Tests.{lt-ltb, le-ltb, ne-eqb}
-use Rattle.laws.specs.Choice.{pick, either}
+use Rattle.laws.specs.Choice.{either}
 use Rattle.laws.specs.Lists.{Rising}
 use Rattle.laws.proofs.ChoiceLaws.{by-pick, by-leb}
 use Rattle.laws.proofs.RisingLaws.{rising-tail}
 use Rattle.laws.proofs.FrontLaws.{rising-above}
-use Rattle.marks.specs.Marks.{below, holds, Bound, Inside}
+use Rattle.marks.specs.Marks.{below, holds, Bound, Inside, Halving, AtLeast}
 
 -- ---- below
 
@@ -64,12 +64,6 @@ inside ps start end low high i r a b h k =
 
 -- ---- halving
 
--- the count lies between low and high
-pub record Halving (ps : List ℕ) (c low high : ℕ) : Type 0 where
-  pub least : low ≤ below ps c
-  pub most : below ps c ≤ high
-  pub within : high ≤ length ps
-
 module _ (ps : List ℕ) (c : ℕ) where
   pub halving-start : Halving ps c 0 (length ps)
   halving-start = record { least = omega arith; most = below-within ps c; within = omega arith }
@@ -86,6 +80,30 @@ module _ (ps : List ℕ) (c : ℕ) where
 
   pub halving-done : (low high : ℕ) → Halving ps c low high → high ≤ low → Bound ps c low
   halving-done low high h e = record { is = omega (arith, h .least, h .most); within = omega (arith, h .least, h .most, h .within) }
+
+-- ---- looking ahead
+
+pub at-least-zero : (ps : List ℕ) (c : ℕ) → AtLeast ps c 0
+at-least-zero ps c = record { least = omega arith; within = omega arith }
+
+pub at-least-past : (ps : List ℕ) (c low : ℕ) → Rising ps → (low ≡ 0 → ⊥) → low ≤ length ps → getD ps (low - 1) 0 < c → AtLeast ps c low
+at-least-past ps c low r p h e =
+    let m = below-past ps c (low - 1) r (omega arith) e in
+    record { least = omega arith; within = h }
+
+pub ahead-end : (ps : List ℕ) (c low : ℕ) → AtLeast ps c low → Halving ps c low (length ps)
+ahead-end ps c low a = record { least = a .least; most = below-within ps c; within = omega arith }
+
+module _ (ps : List ℕ) (c low step : ℕ) where
+  pub ahead-on : AtLeast ps c low → Rising ps → 1 ≤ step → step ≤ length ps - low → getD ps (low + step - 1) 0 < c → AtLeast ps c (low + step)
+  ahead-on a r p h e =
+      let m = below-past ps c (low + step - 1) r (omega (arith, a .within)) e in
+      record { least = omega arith; within = omega (arith, a .within) }
+
+  pub ahead-here : AtLeast ps c low → Rising ps → 1 ≤ step → step ≤ length ps - low → c ≤ getD ps (low + step - 1) 0 → Halving ps c low (low + step - 1)
+  ahead-here a r p h e =
+      let m = below-upto ps c (low + step - 1) r (omega (arith, a .within)) e in
+      record { least = a .least; most = m; within = omega (arith, a .within) }
 
 -- ---- holds
 
@@ -127,3 +145,5 @@ module _ (ps : List ℕ) (c i : ℕ) where
   member-nowhere r b h = sym (holds-nowhere ps c r (omega (arith, b .is)))
 
 pub ruleset halving = (halving-start, halving-up, halving-down, halving-done, member-here, member-nowhere)
+
+pub ruleset ahead = (at-least-zero, at-least-past, ahead-on, ahead-here, ahead-end)

@@ -6,15 +6,16 @@ use mathlib.Core.Bool.{Bool, true, false}
 use native.Mathlib.Nat.{not-suc-le-zero, zero-add, sub-zero}
 use native.Mathlib.Numerals.{add-one}
 use native.Mathlib.Omega.{arith}
-use lib.Dec.{ltb, leb, eqb}
+use lib.Dec.{eqb}
 use lib.ListN.{length, getD, drop, set, replicate, length-set, length-replicate, drop-of-length-le}
 use lib.Seq.{sets, length-sets, drop-cons}
 use borrow.Author.Tests.{lt-ltb, le-ltb, le-leb, lt-leb, eq-eqb, ne-eqb}
-use Rattle.laws.specs.Choice.{pick, both}
+use Rattle.laws.specs.Choice.{pick}
 use Rattle.laws.specs.Lists.{Rising, keep}
 use Rattle.laws.proofs.ChoiceLaws.{by-leb}
 use Rattle.laws.proofs.RisingLaws.{rising-tail}
 use Rattle.laws.proofs.FrontLaws.{sets-front, sets-over}
+use Rattle.laws.proofs.SetsLaws.{getD-sets-in}
 use Rattle.marks.specs.Marks.{between, below, flagOf, flagged, painted, kept, Bound, Flags, Cleared}
 use Rattle.marks.proofs.BelowLaws.{below-tail}
 
@@ -101,6 +102,19 @@ unfolding flagged
 flagged-ext p q h [] = refl
 flagged-ext p q h (c ∷ cs) = rw (h c, flagged-ext p q h cs)
 
+pub getD-flagged : (p : ℕ → Bool) (ps : List ℕ) (i : ℕ) → i < length ps → getD (flagged p ps) i 0 ≡ flagOf (p (getD ps i 0))
+unfolding flagged
+getD-flagged p [] i h = absurd (not-suc-le-zero h)
+getD-flagged p (c ∷ cs) zero h = refl
+getD-flagged p (c ∷ cs) (suc i) h = getD-flagged p cs i (omega arith)
+
+-- one flag, read
+pub flag-at : (p : ℕ → Bool) (ps fs : List ℕ) (i : ℕ) → i < length ps → length ps ≤ length fs → getD (sets fs 0 (flagged p ps)) i 0 ≡ flagOf (p (getD ps i 0))
+flag-at p ps fs i h l =
+    let z : 0 + i ≡ i = omega arith in
+    let n = length-flagged p ps in
+    rw z at (getD-sets-in fs 0 (flagged p ps) i (rw n h) (rw n (omega arith))) ∙ getD-flagged p ps i h
+
 pub flagged-none : (ps : List ℕ) → flagged (λ c. false) ps ≡ replicate (length ps) 0
 unfolding flagged
 flagged-none [] = refl
@@ -171,22 +185,34 @@ pub ruleset clearing = (clearing-start, clearing-on, clearing-done)
 
 -- ---- what is copied
 
-pub kept-flagged : (p : ℕ → Bool) (cs vs rest : List ℕ) → length vs ≤ length cs → kept (flagged p cs ++ rest) vs ≡ keep p cs vs
+kept-end : (fs : List ℕ) → kept fs [] ≡ []
+unfolding kept
+kept-end [] = refl
+kept-end (f ∷ fs) = refl
+
+kept-one : (t : Bool) (v : ℕ) (r : List ℕ) → pick (eqb (flagOf t) 0) r (v ∷ r) ≡ pick t (v ∷ r) r
+kept-one true v r = refl
+kept-one false v r = refl
+
+pub kept-flagged : (p : ℕ → Bool) (cs vs : List ℕ) → kept (flagged p cs) vs ≡ keep p cs vs
 unfolding kept flagged
-kept-flagged p [] [] [] h = refl
-kept-flagged p [] [] (f ∷ fs) h = refl
-kept-flagged p [] (v ∷ vs) rest h = absurd (not-suc-le-zero h)
-kept-flagged p (c ∷ cs) [] rest h = refl
-kept-flagged p (c ∷ cs) (v ∷ vs) rest h = rw (kept-flagged p cs vs rest (omega arith)) (go (p c) (keep p cs vs))
-  where
-    go : (t : Bool) (r : List ℕ) → pick (eqb (flagOf t) 0) r (v ∷ r) ≡ pick t (v ∷ r) r
-    go true r = refl
-    go false r = refl
+kept-flagged p [] vs = refl
+kept-flagged p (c ∷ cs) [] = refl
+kept-flagged p (c ∷ cs) (v ∷ vs) = rw (kept-flagged p cs vs) (kept-one (p c) v (keep p cs vs))
+
+-- flags past the values are not looked at
+kept-front : (fs rest vs : List ℕ) → length vs ≤ length fs → kept (fs ++ rest) vs ≡ kept fs vs
+unfolding kept
+kept-front [] rest [] h = kept-end rest
+kept-front [] rest (v ∷ vs) h = absurd (not-suc-le-zero h)
+kept-front (f ∷ fs) rest [] h = refl
+kept-front (f ∷ fs) rest (v ∷ vs) h = rw (kept-front fs rest vs (omega arith))
 
 -- copying by flags that say p, whatever stands behind them
 pub kept-sets : (p : ℕ → Bool) (cs vs fs : List ℕ) → length cs ≤ length fs → length vs ≤ length cs → kept (sets fs 0 (flagged p cs)) vs ≡ keep p cs vs
 kept-sets p cs vs fs h l =
-    rw (sets-front fs (flagged p cs) (rw (length-flagged p cs) h)) (kept-flagged p cs vs (drop (length (flagged p cs)) fs) l)
+    rw (sets-front fs (flagged p cs) (rw (length-flagged p cs) h))
+    (kept-front (flagged p cs) (drop (length (flagged p cs)) fs) vs (rw (length-flagged p cs) l) ∙ kept-flagged p cs vs)
 
 -- i flags are passed, k values copied: what is left, copied from k, gives the whole
 pub record Copying (fs vs out₀ out : List ℕ) (i k : ℕ) : Type 0 where
@@ -225,11 +251,6 @@ module _ (fs vs out₀ out : List ℕ) (i k : ℕ) where
         few = omega (arith, l .few);
         same = l .same;
       }
-
-  kept-end : (xs : List ℕ) → kept xs [] ≡ []
-  unfolding kept
-  kept-end [] = refl
-  kept-end (x ∷ xs) = refl
 
   pub copying-done : Copying fs vs out₀ out i k → length vs ≤ i → out ≡ sets out₀ 0 (kept fs vs)
   copying-done l h = rw (drop-of-length-le vs h, kept-end) at (l .left)

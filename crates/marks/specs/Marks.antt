@@ -1,5 +1,5 @@
 -- Flags beside a rising list of points, flag i for point i: 0 says no, anything else yes.
-use Prim.Native.Nat.{ℕ, suc, _+_, _≤_}
+use Prim.Native.Nat.{ℕ, suc, _≤_}
 use mathlib.Core.Path.{_≡_}
 use mathlib.Core.List.{List, [], _∷_}
 use mathlib.Core.Bool.{Bool, true, false}
@@ -56,6 +56,17 @@ kept (f ∷ fs) (v ∷ vs) = let r = kept fs vs in pick (eqb f 0) r (v ∷ r)
 pub record Bound (ps : List ℕ) (c r : ℕ) : Type 0 where
   pub is : r ≡ below ps c
   pub within : r ≤ length ps
+
+-- the count is known to lie between low and high
+pub record Halving (ps : List ℕ) (c low high : ℕ) : Type 0 where
+  pub least : low ≤ below ps c
+  pub most : below ps c ≤ high
+  pub within : high ≤ length ps
+
+-- the count is known to be low or more
+pub record AtLeast (ps : List ℕ) (c low : ℕ) : Type 0 where
+  pub least : low ≤ below ps c
+  pub within : low ≤ length ps
 
 -- a flag for each point
 pub record Flags (ps fs : List ℕ) : Type 0 where

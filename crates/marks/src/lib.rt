@@ -4,15 +4,16 @@ ghost use Prim.Native.Nat.{_+_, _≤_};
 ghost use lib.ListN.{length, replicate};
 ghost use lib.Seq.{sets};
 ghost use Rattle.laws.specs.Lists.{Rising};
-ghost use Rattle.marks.specs.Marks.{between, holds, marked, kept, Bound, Flags, Places};
+ghost use Rattle.marks.specs.Marks.{between, holds, marked, kept, Bound, Halving, AtLeast, Flags, Places};
 
 // The bound may be one past the greatest u32.
-fn count_below(points: &[u32], c: u64) -> usize
+fn halve(points: &[u32], c: u64, from: usize, upto: usize) -> usize
     requires { ⌜ Rising (now points) ⌝ }
+    requires { ⌜ Halving (now points) c from upto ⌝ }
     ensures { λ r. ⌜ Bound (now (points .entry)) c r ⌝ }
 {
-    let mut low = 0;
-    let mut high = points.len();
+    let mut low = from;
+    let mut high = upto;
     while low < high {
         let middle = low + (high - low) / 2;
         if (points[middle] as u64) < c {
@@ -22,6 +23,48 @@ fn count_below(points: &[u32], c: u64) -> usize
         }
     }
     low
+}
+
+fn count_below(points: &[u32], c: u64) -> usize
+    requires { ⌜ Rising (now points) ⌝ }
+    ensures { λ r. ⌜ Bound (now (points .entry)) c r ⌝ }
+{
+    halve(points, c, 0, points.len())
+}
+
+// Looks ahead in steps that double, then halves.
+fn count_from(points: &[u32], c: u64, from: usize) -> usize
+    requires { ⌜ Rising (now points) ⌝ }
+    requires { ⌜ AtLeast (now points) c from ⌝ }
+    ensures { λ r. ⌜ Bound (now (points .entry)) c r ⌝ }
+{
+    let mut low = from;
+    let mut step = 1;
+    while step <= points.len() - low {
+        if c <= points[low + step - 1] as u64 {
+            return halve(points, c, low, low + step - 1);
+        }
+        low = low + step;
+        step = step + step;
+    }
+    halve(points, c, low, points.len())
+}
+
+// How many points are below c, found at once where `near` is that count or little less: `near` changes the time alone.
+pub fn count_near(points: &[u32], c: u64, near: usize) -> usize
+    requires { ⌜ Rising (now points) ⌝ }
+    ensures { λ r. ⌜ Bound (now (points .entry)) c r ⌝ }
+{
+    if near == 0 {
+        return count_from(points, c, 0);
+    }
+    if points.len() < near {
+        return count_below(points, c);
+    }
+    if (points[near - 1] as u64) < c {
+        return count_from(points, c, near);
+    }
+    count_below(points, c)
 }
 
 // How many points are below c.
@@ -94,18 +137,35 @@ pub fn clear(flags: &mut [u8], n: usize)
     }
 }
 
-// Sets the flags of the points from start to end, both included, to 1.
-pub fn mark_points(flags: &mut [u8], points: &[u32], start: u32, end: u32)
+// Sets the flags of the points from start to end, both included, to 1; how many points are at most end. A walk over stretches
+// in order hands that number on as `near`.
+pub fn mark_points_near(
+    flags: &mut [u8],
+    points: &[u32],
+    start: u32,
+    end: u32,
+    near: usize,
+) -> usize
     requires { ⌜ Flags (now points) (now flags) ⌝ }
+    ensures { λ r. ⌜ Bound (now (points .entry)) (end + 1) r ⌝ }
     ensures { λ _. ⌜ now (flags .exit) ≡ marked (between start end) (now (points .entry)) (now (flags .entry)) ⌝ }
 {
-    let low = lower_bound(points, start);
-    let high = upper_bound(points, end);
+    let low = count_near(points, start as u64, near);
+    let high = count_near(points, end as u64 + 1, low);
     let mut i = low;
     while i < high {
         flags[i] = 1;
         i += 1;
     }
+    high
+}
+
+// The same with no place to start from.
+pub fn mark_points(flags: &mut [u8], points: &[u32], start: u32, end: u32)
+    requires { ⌜ Flags (now points) (now flags) ⌝ }
+    ensures { λ _. ⌜ now (flags .exit) ≡ marked (between start end) (now (points .entry)) (now (flags .entry)) ⌝ }
+{
+    mark_points_near(flags, points, start, end, points.len());
 }
 
 // Copies the values whose flag is set to the front of out; how many.

@@ -6,10 +6,10 @@ use Rattle.mapped12.proofs.mark_groups.Statement.{statement}
 use Rattle.mapped12.proofs.mark_groups.Tie as tie
 
 abbrev Inv-loop : tie.InvT-loop
-Inv-loop s at groups n points flags₀ g₀ flags g = Marking s at groups n points flags₀ flags g
+Inv-loop s at groups n points flags₀ near₀ g₀ flags near g = Marking s at groups n points flags₀ flags g
 
 abbrev μ-loop : tie.MeasureT-loop
-μ-loop s at groups n points flags₀ g₀ flags g = groups - g
+μ-loop s at groups n points flags₀ near₀ g₀ flags near g = groups - g
 
 loop-holds : tie.Need-loop-holds Inv-loop μ-loop
 loop-holds c = search marking
@@ -17,8 +17,8 @@ loop-holds c = search marking
 group-at-requires : tie.Need-group-at-requires Inv-loop μ-loop
 group-at-requires c κs = search needs
 
-mark-points-requires : tie.Need-mark-points-requires Inv-loop μ-loop
-mark-points-requires c κs = search needs
+mark-points-near-requires : tie.Need-mark-points-near-requires Inv-loop μ-loop
+mark-points-near-requires c κs = search needs
 
 add-g : tie.Need-add-g Inv-loop μ-loop
 add-g c = search needs
@@ -43,7 +43,7 @@ mark-groups-spec =
     μ-loop
     loop-holds
     group-at-requires
-    mark-points-requires
+    mark-points-near-requires
     add-g
     loop-less
     loop-again

@@ -6,10 +6,10 @@ use Rattle.mapped4.proofs.mark_segments.Statement.{statement}
 use Rattle.mapped4.proofs.mark_segments.Tie as tie
 
 abbrev Inv-loop : tie.InvT-loop
-Inv-loop s at segs len points flags₀ i₀ flags i = Collecting s at segs len points flags₀ flags i
+Inv-loop s at segs len points flags₀ near₀ i₀ flags near i = Collecting s at segs len points flags₀ flags i
 
 abbrev μ-loop : tie.MeasureT-loop
-μ-loop s at segs len points flags₀ i₀ flags i = segs - i
+μ-loop s at segs len points flags₀ near₀ i₀ flags near i = segs - i
 
 loop-holds : tie.Need-loop-holds Inv-loop μ-loop
 loop-holds c = search collecting

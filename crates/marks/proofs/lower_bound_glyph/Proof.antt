@@ -1,7 +1,8 @@
 -- The count stays between low and high; a look at the middle moves one of them, since the list rises.
 use borrow.Author.Needs.{needs}
 use Prim.Native.Nat.{_-_}
-use Rattle.marks.proofs.BelowLaws.{Halving, halving}
+use Rattle.marks.specs.Marks.{Halving}
+use Rattle.marks.proofs.BelowLaws.{halving}
 use Rattle.marks.proofs.lower_bound_glyph.Statement.{statement}
 use Rattle.marks.proofs.lower_bound_glyph.Tie as tie
 

@@ -3,20 +3,23 @@ use borrow.Author.Needs.{needs}
 use Prim.Native.Nat.{_-_}
 use mathlib.Core.Bool.{true}
 use Rattle.marks.proofs.MarksLaws.{Painting, painting}
-use Rattle.marks.proofs.mark_points.Statement.{statement}
-use Rattle.marks.proofs.mark_points.Tie as tie
+use Rattle.marks.proofs.mark_points_near.Statement.{statement}
+use Rattle.marks.proofs.mark_points_near.Tie as tie
 
 abbrev Inv-loop : tie.InvT-loop
-Inv-loop flags₀ points start end low high i₀ flags i = Painting (λ c. true) points flags₀ flags low high i
+Inv-loop flags₀ points start end near low high i₀ flags i = Painting (λ c. true) points flags₀ flags low high i
 
 abbrev μ-loop : tie.MeasureT-loop
-μ-loop flags₀ points start end low high i₀ flags i = high - i
+μ-loop flags₀ points start end near low high i₀ flags i = high - i
 
-lower-bound-requires : tie.Need-lower-bound-requires Inv-loop μ-loop
-lower-bound-requires c κs = search needs
+count-near-requires : tie.Need-count-near-requires Inv-loop μ-loop
+count-near-requires c κs = search needs
 
-upper-bound-requires : tie.Need-upper-bound-requires Inv-loop μ-loop
-upper-bound-requires c κs = search needs
+add-count-near : tie.Need-add-count-near Inv-loop μ-loop
+add-count-near c = search needs
+
+count-near-requires-2 : tie.Need-count-near-requires-2 Inv-loop μ-loop
+count-near-requires-2 c κs = search needs
 
 loop-holds : tie.Need-loop-holds Inv-loop μ-loop
 loop-holds c = search painting
@@ -37,16 +40,17 @@ same-length : tie.Need-same-length Inv-loop μ-loop
 same-length c = search needs
 
 returns : tie.Need-returns Inv-loop μ-loop
-returns c = search painting
+returns c = (search needs, search painting)
 
-pub mark-points-spec : {M : Type 1} → statement M
-mark-points-spec =
+pub mark-points-near-spec : {M : Type 1} → statement M
+mark-points-near-spec =
     tie.close
     (tie.spec
     Inv-loop
     μ-loop
-    lower-bound-requires
-    upper-bound-requires
+    count-near-requires
+    add-count-near
+    count-near-requires-2
     loop-holds
     slice-write-flags
     add-i
