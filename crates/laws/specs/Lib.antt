@@ -2,3 +2,4 @@ pub mod Choice
 pub mod Search
 pub mod Lists
 pub mod Pieces
+pub mod Select

@@ -1,0 +1,38 @@
+-- C9 and its neighbours, computed from the definitions of the default table.
+use mathlib.Core.Path.{_≡_, refl}
+use mathlib.Core.List.{List, [], _∷_}
+use mathlib.Core.Bool.{true, false}
+use Rattle.laws.specs.Lists.{Pair}
+use Rattle.laws.specs.Search.{first}
+use Rattle.laws.specs.Select.{select, anyOf}
+use Rattle.number.specs.BigEndian.{be}
+use Rattle.uvs.specs.Default.{inRanges, bitLength, ranges, covers, coveredPoints, longRanges, longest, follow}
+
+-- C9: nine ranges and two kept points give ranges, eight give single points
+pub nine-ranges : inRanges 9 (0x41 ∷ 0x42 ∷ []) ≡ true
+unfolding inRanges bitLength first
+nine-ranges = refl
+
+pub eight-single : inRanges 8 (0x41 ∷ 0x42 ∷ []) ≡ false
+unfolding inRanges bitLength first
+eight-single = refl
+
+-- no range gives single points, of which there are none
+pub none-single : inRanges 0 [] ≡ false
+unfolding inRanges bitLength first
+none-single = refl
+
+-- points inside a range are covered: one range of 0x41 and two more
+pub inside-covered : coveredPoints (0 ∷ 0 ∷ 0 ∷ 1 ∷ 0 ∷ 0 ∷ 0x41 ∷ 2 ∷ []) 0 (0x40 ∷ 0x42 ∷ 0x43 ∷ 0x44 ∷ []) ≡ 0x42 ∷ 0x43 ∷ []
+unfolding select anyOf covers ranges be
+inside-covered = refl
+
+-- adjacent points share a range, a gap begins another
+pub gap-cuts : longRanges (5 ∷ 6 ∷ 7 ∷ 9 ∷ 10 ∷ []) ≡ (5, 2) ∷ (9, 1) ∷ []
+unfolding longest follow
+gap-cuts = refl
+
+-- with at most two points after the start, the range ends there
+pub most-cuts : longest 2 0 (5 ∷ 6 ∷ 7 ∷ 8 ∷ 9 ∷ []) ≡ (5, 2) ∷ (8, 1) ∷ []
+unfolding longest follow
+most-cuts = refl

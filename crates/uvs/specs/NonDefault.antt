@@ -1,0 +1,39 @@
+-- The new non-default table of a selector record (docs/01-rules.md, "Format 14"), and refusal 8 for it. The source's table stands at p.
+use Prim.Native.Nat.{ℕ, zero, suc, _+_}
+use mathlib.Core.List.{List, [], _∷_, _++_}
+use mathlib.Core.Bool.{Bool}
+use lib.Dec.{leb, eqb}
+use lib.ListN.{length, getD}
+use Rattle.laws.specs.Choice.{either}
+use Rattle.laws.specs.Lists.{Pair}
+use Rattle.laws.specs.Select.{select, anyOf, has}
+use Rattle.number.specs.BigEndian.{be, enc}
+use Rattle.number.specs.Limits.{absent}
+use Rattle.uvs.specs.Tables.{table}
+
+-- m mappings from p: unicodeValue and glyphID
+unfoldable pub mappings : List ℕ → ℕ → ℕ → List Pair
+mappings xs p zero = []
+mappings xs p (suc m) = (be 3 xs p, be 2 xs (p + 3)) ∷ mappings xs (p + 5) m
+
+-- "keep a mapping if its code point is kept or its old glyph requested"
+unfoldable pub keepsMapping : List ℕ → List ℕ → Pair → Bool
+keepsMapping kept requested m = either (has kept (m .0)) (has requested (m .1))
+
+abbrev pub keptMappings : List ℕ → ℕ → List ℕ → List ℕ → List Pair
+keptMappings xs p kept requested = select (keepsMapping kept requested) (mappings xs (p + 4) (be 4 xs p))
+
+-- the code point and the new glyph
+abbrev pub mappingBytes : List ℕ → Pair → List ℕ
+mappingBytes map m = enc 3 (m .0) ++ enc 2 (getD map (m .1) absent)
+
+unfoldable pub newNonDefault : List ℕ → ℕ → List ℕ → List ℕ → List ℕ → List ℕ
+newNonDefault xs p kept map requested = table (mappingBytes map) (keptMappings xs p kept requested)
+
+-- a glyph at or above n, or absent from the map
+unfoldable pub missing : List ℕ → ℕ → Bool
+missing map g = either (leb (length map) g) (eqb (getD map g absent) absent)
+
+-- refusal 8: a mapping to be kept names such a glyph
+unfoldable pub badMapping : List ℕ → ℕ → List ℕ → List ℕ → List ℕ → Bool
+badMapping xs p kept map requested = anyOf (λ m. missing map (m .1)) (keptMappings xs p kept requested)
