@@ -3,3 +3,4 @@ pub mod SearchLaws
 pub mod SetsLaws
 pub mod RisingLaws
 pub mod PiecesLaws
+pub mod SelectLaws

@@ -6,15 +6,21 @@ use lib.Dec.{ltb, leb, eqb}
 use lib.ListN.{length, getD}
 use Rattle.laws.specs.Choice.{pick, both}
 use Rattle.laws.specs.Search.{first}
-use Rattle.laws.specs.Select.{select, anyOf}
+use Rattle.laws.specs.Select.{each, select, anyOf}
 use Rattle.laws.specs.Lists.{Pair}
 use Rattle.number.specs.BigEndian.{be, enc}
 use Rattle.uvs.specs.Tables.{table}
 
--- r ranges from p: startUnicodeValue and additionalCount
-unfoldable pub ranges : List ℕ → ℕ → ℕ → List Pair
-ranges xs p zero = []
-ranges xs p (suc r) = (be 3 xs p, getD xs (p + 3) 0) ∷ ranges xs (p + 4) r
+-- the range at a place: its startUnicodeValue and additionalCount
+abbrev pub range : List ℕ → ℕ → Pair
+range xs at = (be 3 xs at, getD xs (at + 3) 0)
+
+-- range i of the table
+abbrev pub rangeAt : List ℕ → ℕ → ℕ → Pair
+rangeAt xs p i = range xs (p + 4 + 4 * i)
+
+abbrev pub ranges : List ℕ → ℕ → List Pair
+ranges xs p = each (rangeAt xs p) (be 4 xs p) 0
 
 -- a range covers its start and as many points after it as its additional count says
 unfoldable pub covers : ℕ → Pair → Bool
@@ -22,7 +28,7 @@ covers c a = both (leb (a .0) c) (leb c (a .0 + a .1))
 
 -- the kept points covered by any range
 abbrev pub coveredPoints : List ℕ → ℕ → List ℕ → List ℕ
-coveredPoints xs p kept = select (λ c. anyOf (covers c) (ranges xs (p + 4) (be 4 xs p))) kept
+coveredPoints xs p kept = select (λ c. anyOf (covers c) (ranges xs p)) kept
 
 -- the least b with r below 2^b: 0 for 0, 4 for 8 to 15
 unfoldable pub bitLength : ℕ → ℕ

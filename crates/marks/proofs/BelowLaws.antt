@@ -1,0 +1,123 @@
+-- How many numbers of a rising list lie below a bound: what one look tells, a search by halving, and membership.
+use Prim.Native.Nat.{ℕ, zero, suc, _+_, _-_, _/_, _<_, _≤_}
+use mathlib.Core.Path.{_≡_, refl, sym, ap, _∙_}
+use mathlib.Core.List.{List, [], _∷_}
+use mathlib.Core.Bool.{Bool, true, false}
+use native.Mathlib.Nat.{not-suc-le-zero}
+use native.Mathlib.Omega.{arith}
+use lib.Dec.{ltb, eqb}
+use lib.ListN.{length, getD}
+use borrow.Author.Tests.{lt-ltb, le-ltb, ne-eqb}
+use Rattle.laws.specs.Choice.{pick, either}
+use Rattle.laws.specs.Lists.{Rising}
+use Rattle.laws.proofs.ChoiceLaws.{by-pick, by-leb}
+use Rattle.laws.proofs.RisingLaws.{rising-lt, rising-tail}
+use Rattle.marks.specs.Marks.{below, holds, Bound}
+
+-- ---- below
+
+pub below-within : (ps : List ℕ) (c : ℕ) → below ps c ≤ length ps
+unfolding below
+below-within [] c = omega arith
+below-within (x ∷ xs) c =
+    let h = below-within xs c in
+    by-pick (λ r. r ≤ suc (length xs)) (ltb x c) (suc (below xs c)) (below xs c) (λ e. omega arith) (λ e. omega arith)
+
+pub below-none : (ps : List ℕ) (c : ℕ) → ((i : ℕ) → i < length ps → c ≤ getD ps i 0) → below ps c ≡ 0
+unfolding below
+below-none [] c h = refl
+below-none (x ∷ xs) c h = rw (le-ltb x c (h 0 (omega arith))) (below-none xs c (λ i l. h (suc i) (omega arith)))
+
+-- the rest of a rising list lies above its first
+pub rising-above : {x : ℕ} {xs : List ℕ} → Rising (x ∷ xs) → (i : ℕ) → i < length xs → x < getD xs i 0
+rising-above r i h = rising-lt r 0 (suc i) (omega arith) (omega arith)
+
+pub below-tail : {x : ℕ} {xs : List ℕ} (c : ℕ) → Rising (x ∷ xs) → c ≤ x → below xs c ≡ 0
+below-tail {x} {xs} c r h = below-none xs c (λ i l. omega (arith, rising-above r i l))
+
+-- a number below c is one of those counted
+pub below-past : (ps : List ℕ) (c i : ℕ) → Rising ps → i < length ps → getD ps i 0 < c → i < below ps c
+unfolding below
+below-past [] c i r h e = absurd (not-suc-le-zero h)
+below-past (x ∷ xs) c zero r h e = rw (lt-ltb x c e) (omega arith)
+below-past (x ∷ xs) c (suc i) r h e =
+    let l : x < c = omega (arith, rising-above r i (omega arith)) in
+    let m = below-past xs c i (rising-tail r) (omega arith) e in
+    rw (lt-ltb x c l) (omega arith)
+
+-- and one that is not below c ends the count
+pub below-upto : (ps : List ℕ) (c i : ℕ) → Rising ps → i < length ps → c ≤ getD ps i 0 → below ps c ≤ i
+unfolding below
+below-upto [] c i r h e = absurd (not-suc-le-zero h)
+below-upto (x ∷ xs) c zero r h e =
+    let z = below-tail c r e in
+    rw (le-ltb x c e) (omega arith)
+below-upto (x ∷ xs) c (suc i) r h e =
+    let m = below-upto xs c i (rising-tail r) (omega arith) e in
+    by-pick (λ k. k ≤ suc i) (ltb x c) (suc (below xs c)) (below xs c) (λ e. omega arith) (λ e. omega arith)
+
+-- ---- halving
+
+-- the count lies between low and high
+pub record Halving (ps : List ℕ) (c low high : ℕ) : Type 0 where
+  pub least : low ≤ below ps c
+  pub most : below ps c ≤ high
+  pub within : high ≤ length ps
+
+module _ (ps : List ℕ) (c : ℕ) where
+  pub halving-start : Halving ps c 0 (length ps)
+  halving-start = record { least = omega arith; most = below-within ps c; within = omega arith }
+
+  pub halving-up : (low high : ℕ) → Halving ps c low high → Rising ps → low < high → getD ps (low + (high - low) / 2) 0 < c → Halving ps c (low + (high - low) / 2 + 1) high
+  halving-up low high h r l e =
+      let m = below-past ps c (low + (high - low) / 2) r (omega (arith, h .within)) e in
+      record { least = omega arith; most = h .most; within = h .within }
+
+  pub halving-down : (low high : ℕ) → Halving ps c low high → Rising ps → low < high → c ≤ getD ps (low + (high - low) / 2) 0 → Halving ps c low (low + (high - low) / 2)
+  halving-down low high h r l e =
+      let m = below-upto ps c (low + (high - low) / 2) r (omega (arith, h .within)) e in
+      record { least = h .least; most = m; within = omega (arith, h .within) }
+
+  pub halving-done : (low high : ℕ) → Halving ps c low high → high ≤ low → Bound ps c low
+  halving-done low high h e = record { is = omega (arith, h .least, h .most); within = omega (arith, h .least, h .most, h .within) }
+
+-- ---- holds
+
+holds-above : (ps : List ℕ) (c : ℕ) → ((i : ℕ) → i < length ps → c < getD ps i 0) → holds ps c ≡ false
+unfolding holds
+holds-above [] c h = refl
+holds-above (x ∷ xs) c h =
+    rw (ne-eqb x c (λ e. omega (arith, h 0 (omega arith)))) (holds-above xs c (λ i l. h (suc i) (omega arith)))
+
+either-false : (b : Bool) → b ≡ either b false
+either-false true = refl
+either-false false = refl
+
+-- c stands at its place or nowhere
+holds-place : (ps : List ℕ) (c : ℕ) → Rising ps → below ps c < length ps → eqb (getD ps (below ps c) 0) c ≡ holds ps c
+unfolding below holds
+holds-place [] c r h = absurd (not-suc-le-zero h)
+holds-place (x ∷ xs) c r h =
+    by-leb (below (x ∷ xs) c < suc (length xs) → eqb (getD (x ∷ xs) (below (x ∷ xs) c) 0) c ≡ holds (x ∷ xs) c) c x
+    (λ (l : c ≤ x) g. rw (le-ltb x c l, below-tail c r l, holds-above xs c (λ i k. omega (arith, rising-above r i k))) (either-false (eqb x c)))
+    (λ (l : x < c) g.
+    rw (lt-ltb x c l, ne-eqb x c (λ e. omega arith)) (holds-place xs c (rising-tail r) (omega (arith, rw (lt-ltb x c l) at g))))
+    h
+
+holds-nowhere : (ps : List ℕ) (c : ℕ) → Rising ps → length ps ≤ below ps c → holds ps c ≡ false
+unfolding below holds
+holds-nowhere [] c r h = refl
+holds-nowhere (x ∷ xs) c r h =
+    by-leb (suc (length xs) ≤ below (x ∷ xs) c → holds (x ∷ xs) c ≡ false) c x
+    (λ (l : c ≤ x) g. absurd (omega (arith, rw (le-ltb x c l, below-tail c r l) at g)))
+    (λ (l : x < c) g. rw (ne-eqb x c (λ e. omega arith)) (holds-nowhere xs c (rising-tail r) (omega (arith, rw (lt-ltb x c l) at g))))
+    h
+
+module _ (ps : List ℕ) (c i : ℕ) where
+  pub member-here : Rising ps → Bound ps c i → i < length ps → eqb (getD ps i 0) c ≡ holds ps c
+  member-here r b h = rw (b .is) (holds-place ps c r (omega (arith, b .is)))
+
+  pub member-nowhere : Rising ps → Bound ps c i → length ps ≤ i → false ≡ holds ps c
+  member-nowhere r b h = sym (holds-nowhere ps c r (omega (arith, b .is)))
+
+pub ruleset halving = (halving-start, halving-up, halving-down, halving-done, member-here, member-nowhere)

@@ -1,0 +1,63 @@
+-- Flags beside a rising list of points, flag i for point i: 0 says no, anything else yes.
+use Prim.Native.Nat.{ℕ, suc, _+_, _≤_}
+use mathlib.Core.Path.{_≡_}
+use mathlib.Core.List.{List, [], _∷_}
+use mathlib.Core.Bool.{Bool, true, false}
+use lib.Dec.{ltb, leb, eqb}
+use lib.ListN.{length}
+use Rattle.laws.specs.Choice.{pick, both, either}
+use Rattle.laws.specs.Lists.{Rising}
+
+-- whether c is one of start..end; none is where start exceeds end
+abbrev pub between : ℕ → ℕ → ℕ → Bool
+between start end c = both (leb start c) (leb c end)
+
+-- how many of the numbers are below c
+unfoldable pub below : List ℕ → ℕ → ℕ
+below [] c = 0
+below (x ∷ xs) c = let r = below xs c in pick (ltb x c) (suc r) r
+
+-- whether c is one of the numbers
+unfoldable pub holds : List ℕ → ℕ → Bool
+holds [] c = false
+holds (x ∷ xs) c = let r = holds xs c in either (eqb x c) r
+
+abbrev pub flagOf : Bool → ℕ
+flagOf true = 1
+flagOf false = 0
+
+-- the flags that say exactly which points pass p
+unfoldable pub flagged : (ℕ → Bool) → List ℕ → List ℕ
+flagged p [] = []
+flagged p (c ∷ cs) = flagOf (p c) ∷ flagged p cs
+
+-- where a point passes p, its flag becomes what v says of it; every other flag stays
+unfoldable pub painted : (ℕ → Bool) → (ℕ → Bool) → List ℕ → List ℕ → List ℕ
+painted p v [] fs = fs
+painted p v (c ∷ cs) [] = []
+painted p v (c ∷ cs) (f ∷ fs) = pick (p c) (flagOf (v c)) f ∷ painted p v cs fs
+
+-- where a point passes p, its flag becomes 1; every other flag stays
+abbrev pub marked : (ℕ → Bool) → List ℕ → List ℕ → List ℕ
+marked p = painted p (λ c. true)
+
+-- the values whose flag is not 0
+unfoldable pub kept : List ℕ → List ℕ → List ℕ
+kept [] vs = []
+kept (f ∷ fs) [] = []
+kept (f ∷ fs) (v ∷ vs) = let r = kept fs vs in pick (eqb f 0) r (v ∷ r)
+
+-- what a search by halving gives: the count, and its bound
+pub record Bound (ps : List ℕ) (c r : ℕ) : Type 0 where
+  pub is : r ≡ below ps c
+  pub within : r ≤ length ps
+
+-- a flag for each point
+pub record Flags (ps fs : List ℕ) : Type 0 where
+  pub rising : Rising ps
+  pub beside : length ps ≤ length fs
+
+-- a flag and a place to copy to for each value
+pub record Places (fs vs out : List ℕ) : Type 0 where
+  pub flags : length vs ≤ length fs
+  pub room : length vs ≤ length out

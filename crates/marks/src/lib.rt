@@ -1,0 +1,149 @@
+// Flags beside a rising list of points: found by halving, set for a stretch of points, and copied by.
+ghost use mathlib.Core.Path.{_≡_};
+ghost use Prim.Native.Nat.{_+_, _≤_};
+ghost use lib.ListN.{length, replicate};
+ghost use lib.Seq.{sets};
+ghost use Rattle.laws.specs.Lists.{Rising};
+ghost use Rattle.marks.specs.Marks.{between, holds, marked, kept, Bound, Flags, Places};
+
+// The bound may be one past the greatest u32.
+fn count_below(points: &[u32], c: u64) -> usize
+    requires { ⌜ Rising (now points) ⌝ }
+    ensures { λ r. ⌜ Bound (now (points .entry)) c r ⌝ }
+{
+    let mut low = 0;
+    let mut high = points.len();
+    while low < high {
+        let middle = low + (high - low) / 2;
+        if (points[middle] as u64) < c {
+            low = middle + 1;
+        } else {
+            high = middle;
+        }
+    }
+    low
+}
+
+// How many points are below c.
+pub fn lower_bound(points: &[u32], c: u32) -> usize
+    requires { ⌜ Rising (now points) ⌝ }
+    ensures { λ r. ⌜ Bound (now (points .entry)) c r ⌝ }
+{
+    count_below(points, c as u64)
+}
+
+// How many points are at most c.
+pub fn upper_bound(points: &[u32], c: u32) -> usize
+    requires { ⌜ Rising (now points) ⌝ }
+    ensures { λ r. ⌜ Bound (now (points .entry)) (c + 1) r ⌝ }
+{
+    count_below(points, c as u64 + 1)
+}
+
+// How many glyphs are below g.
+pub fn lower_bound_glyph(glyphs: &[u16], g: u16) -> usize
+    requires { ⌜ Rising (now glyphs) ⌝ }
+    ensures { λ r. ⌜ Bound (now (glyphs .entry)) g r ⌝ }
+{
+    let mut low = 0;
+    let mut high = glyphs.len();
+    while low < high {
+        let middle = low + (high - low) / 2;
+        if glyphs[middle] < g {
+            low = middle + 1;
+        } else {
+            high = middle;
+        }
+    }
+    low
+}
+
+// Whether c is one of the points.
+pub fn member(points: &[u32], c: u32) -> bool
+    requires { ⌜ Rising (now points) ⌝ }
+    ensures { λ r. ⌜ r ≡ holds (now (points .entry)) c ⌝ }
+{
+    let i = lower_bound(points, c);
+    if i < points.len() {
+        return points[i] == c;
+    }
+    false
+}
+
+// Whether g is one of the glyphs.
+pub fn member_glyph(glyphs: &[u16], g: u16) -> bool
+    requires { ⌜ Rising (now glyphs) ⌝ }
+    ensures { λ r. ⌜ r ≡ holds (now (glyphs .entry)) g ⌝ }
+{
+    let i = lower_bound_glyph(glyphs, g);
+    if i < glyphs.len() {
+        return glyphs[i] == g;
+    }
+    false
+}
+
+// Sets the first n flags to 0.
+pub fn clear(flags: &mut [u8], n: usize)
+    requires { ⌜ n ≤ length (now flags) ⌝ }
+    ensures { λ _. ⌜ now (flags .exit) ≡ sets (now (flags .entry)) 0 (replicate n 0) ⌝ }
+{
+    let mut i = 0;
+    while i < n {
+        flags[i] = 0;
+        i += 1;
+    }
+}
+
+// Sets the flags of the points from start to end, both included, to 1.
+pub fn mark_points(flags: &mut [u8], points: &[u32], start: u32, end: u32)
+    requires { ⌜ Flags (now points) (now flags) ⌝ }
+    ensures { λ _. ⌜ now (flags .exit) ≡ marked (between start end) (now (points .entry)) (now (flags .entry)) ⌝ }
+{
+    let low = lower_bound(points, start);
+    let high = upper_bound(points, end);
+    let mut i = low;
+    while i < high {
+        flags[i] = 1;
+        i += 1;
+    }
+}
+
+// Copies the values whose flag is set to the front of out; how many.
+pub fn copy_marked(flags: &[u8], values: &[u32], out: &mut [u32]) -> usize
+    requires { ⌜ Places (now flags) (now values) (now out) ⌝ }
+    ensures { λ r. ⌜ r ≡ length (kept (now (flags .entry)) (now (values .entry))) ⌝ }
+    ensures { λ _. ⌜ now (out .exit) ≡ sets (now (out .entry)) 0 (kept (now (flags .entry)) (now (values .entry))) ⌝ }
+{
+    let mut i = 0;
+    let mut k = 0;
+    while i < values.len() {
+        let flag = flags[i];
+        let value = values[i];
+        i += 1;
+        if flag != 0 {
+            out[k] = value;
+            k += 1;
+        }
+    }
+    k
+}
+
+// The same for glyphs.
+pub fn copy_marked_glyphs(flags: &[u8], values: &[u16], out: &mut [u16]) -> usize
+    requires { ⌜ Places (now flags) (now values) (now out) ⌝ }
+    ensures { λ r. ⌜ r ≡ length (kept (now (flags .entry)) (now (values .entry))) ⌝ }
+    ensures { λ _. ⌜ now (out .exit) ≡ sets (now (out .entry)) 0 (kept (now (flags .entry)) (now (values .entry))) ⌝ }
+{
+    let mut i = 0;
+    let mut k = 0;
+    while i < values.len() {
+        let flag = flags[i];
+        let value = values[i];
+        i += 1;
+        if flag != 0 {
+            out[k] = value;
+            k += 1;
+        }
+    }
+    k
+}

@@ -1,0 +1,94 @@
+-- Which mappings stay, which glyph a map gives, and which it misses: the code's answers are the definitions'.
+use Prim.Native.Nat.{ℕ, zero, suc, _+_, _*_, _<_, _≤_}
+use mathlib.Core.Path.{_≡_, refl, sym, ap, _∙_}
+use mathlib.Core.List.{List, [], _∷_}
+use mathlib.Core.Bool.{Bool, true, false}
+use native.Mathlib.Omega.{arith}
+use native.Mathlib.Nat.{not-suc-le-zero}
+use borrow.Author.Tests.{lt-leb, le-leb, eq-eqb}
+use lib.ListN.{length, getD, List·getD-eq-default}
+use lib.Dec.{eqb}
+use lib.Seq.{sets}
+use Rattle.laws.proofs.ChoiceLaws.{by-leb}
+use Rattle.marks.specs.Marks.{holds}
+use Rattle.number.specs.BigEndian.{be, enc, put, Num}
+use Rattle.number.proofs.BigEndianLaws.{put-after, length-enc}
+use Rattle.number.specs.Limits.{absent}
+use Rattle.laws.specs.Search.{some}
+use Rattle.laws.proofs.SelectLaws.{any-select, Counting, counting-end}
+use Rattle.laws.proofs.SearchLaws.{Asking, asking-yes, asking-no}
+use Rattle.uvs.specs.NonDefault.{mapping, mappingAt, mappingBytes, keepsMapping, keptMappings, missing, badMapping}
+use Rattle.non_default_uvs.specs.Lent.{badAt}
+
+-- ---- keepsMapping
+
+module _ (xs : List ℕ) (place : ℕ) (kept requested : List ℕ) (c : ℕ) (b : Bool) (n : Num 3 xs place c) (e : b ≡ holds kept c) where
+  pub keeps-kept : b ≡ true → true ≡ keepsMapping kept requested (mapping xs place)
+  unfolding keepsMapping
+  keeps-kept t = rw (← n .is, ← e, t)
+
+  pub keeps-asked : b ≡ false → (g : ℕ) (d : Bool) → Num 2 xs (place + 3) g → d ≡ holds requested g
+      → d ≡ keepsMapping kept requested (mapping xs place)
+  unfolding keepsMapping
+  keeps-asked t g d m h = rw (← n .is, ← e, t, ← m .is) h
+
+pub ruleset keeps-rules = (keeps-kept, keeps-asked)
+
+-- ---- the map
+
+pub getD-in : (xs : List ℕ) (i a b : ℕ) → i < length xs → getD xs i a ≡ getD xs i b
+getD-in [] i a b h = absurd (not-suc-le-zero h)
+getD-in (x ∷ xs) zero a b h = refl
+getD-in (x ∷ xs) (suc i) a b h = getD-in xs i a b (omega arith)
+
+pub new-in : (map : List ℕ) (g : ℕ) → g < length map → getD map g 0 ≡ getD map g absent
+new-in map g h = getD-in map g 0 absent h
+
+pub new-past : (map : List ℕ) (g : ℕ) → length map ≤ g → absent ≡ getD map g absent
+new-past map g h = sym (List·getD-eq-default map absent h)
+
+-- a glyph is missing exactly where the map's entry, taken as absent past the end, is absent
+pub missing-absent : (map : List ℕ) (g : ℕ) → missing map g ≡ eqb (getD map g absent) absent
+unfolding missing
+missing-absent map g = by-leb (missing map g ≡ eqb (getD map g absent) absent) (length map) g
+  (λ h. rw (le-leb (length map) g h, ← new-past map g h))
+  (λ h. rw (lt-leb (length map) g h))
+
+-- ---- one mapping
+
+module _ (xs : List ℕ) (p : ℕ) (kept map requested : List ℕ) (i : ℕ) (b : Bool) (e : b ≡ keepsMapping kept requested (mapping xs (p + 4 + 5 * i))) where
+  pub bad-not : b ≡ false → false ≡ badAt xs p kept map requested i
+  bad-not t = rw (← e, t)
+
+  pub bad-looked : b ≡ true → (g n : ℕ) → Num 2 xs (p + 4 + 5 * i + 3) g → n ≡ getD map g absent → eqb n absent ≡ badAt xs p kept map requested i
+  bad-looked t g n m d = rw (← e, t, missing-absent map (be 2 xs (p + 4 + 5 * i + 3)), ← m .is, d)
+
+pub ruleset bad-rules = (bad-not, bad-looked)
+
+-- ---- the whole table, its m mappings asked one by one
+
+module _ (xs : List ℕ) (p : ℕ) (kept map requested : List ℕ) (m i : ℕ) (n : Num 4 xs p m) where
+  bad-all : some (badAt xs p kept map requested) m 0 ≡ badMapping xs p kept map requested
+  unfolding badMapping
+  bad-all = rw (n .is) (any-select (λ m. missing map (m .1)) (keepsMapping kept requested) (mappingAt xs p) (be 4 xs p) 0)
+
+  pub bad-found : (b : Bool) → Asking (badAt xs p kept map requested) m i → i < m → b ≡ badAt xs p kept map requested i → b ≡ true → true ≡ badMapping xs p kept map requested
+  bad-found b a h e t = asking-yes (badAt xs p kept map requested) m i b a h e t ∙ bad-all
+
+  pub bad-none : Asking (badAt xs p kept map requested) m i → m ≤ i → false ≡ badMapping xs p kept map requested
+  bad-none a h = asking-no (badAt xs p kept map requested) m i a h ∙ bad-all
+
+pub ruleset bad-table = (bad-found, bad-none)
+
+pub count-all : (xs : List ℕ) (p : ℕ) (kept requested : List ℕ) (m i k : ℕ) → Num 4 xs p m → Counting (keepsMapping kept requested) (mappingAt xs p) m i k → m ≤ i
+    → k ≡ length (keptMappings xs p kept requested)
+count-all xs p kept requested m i k n l h = rw (n .is) at (counting-end (keepsMapping kept requested) (mappingAt xs p) m i k l h)
+
+-- ---- one mapping written
+
+-- the code point, then the new glyph behind it
+pub copy-is : (xs : List ℕ) (place : ℕ) (map out mid fin : List ℕ) (to c g n : ℕ) → Num 3 xs place c → Num 2 xs (place + 3) g → n ≡ getD map g absent
+    → mid ≡ put 3 out to c → fin ≡ put 2 mid (to + 3) n → fin ≡ sets out to (mappingBytes map (mapping xs place))
+unfolding put
+copy-is xs place map out mid fin to c g n hc hg hn e d =
+    rw (d, e, ← hc .is, ← hg .is, ← hn) (put-after 2 out to (enc 3 c) n (to + 3) (rw (length-enc 3 c)))

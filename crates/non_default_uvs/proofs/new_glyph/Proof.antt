@@ -1,0 +1,25 @@
+use borrow.Author.Needs.{needs}
+use Rattle.non_default_uvs.proofs.MappingLaws.{new-in, new-past}
+use Rattle.non_default_uvs.proofs.new_glyph.Statement.{statement}
+use Rattle.non_default_uvs.proofs.new_glyph.Tie as tie
+use Rattle.non_default_uvs.proofs.new_glyph.Reads as reads
+use Rattle.non_default_uvs.proofs.new_glyph.Lts as lts
+
+-- src/lib.rt:29:16
+mul-result : tie.Need-mul-result
+mul-result c = search needs
+
+-- src/lib.rt:29:16
+shared-slice-read-result : tie.Need-shared-slice-read-result
+shared-slice-read-result c = search needs
+
+-- src/lib.rt:29:9
+returns : tie.Need-returns
+returns c = search (needs, new-in)
+
+-- src/lib.rt:25:1
+returns-2 : tie.Need-returns-2
+returns-2 c = search (needs, new-past)
+
+pub new-glyph-spec : {M : Type 1} → statement M
+new-glyph-spec = tie.close (tie.spec mul-result shared-slice-read-result returns returns-2)

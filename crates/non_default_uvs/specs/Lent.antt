@@ -1,0 +1,26 @@
+-- What the functions of a non-default table are lent, the table at p inside the source and the lists in order, and what is asked of one mapping.
+use Prim.Native.Nat.{ℕ, _+_, _*_, _≤_}
+use mathlib.Core.List.{List}
+use mathlib.Core.Bool.{Bool}
+use lib.ListN.{length}
+use Rattle.laws.specs.Lists.{Rising}
+use Rattle.number.specs.BigEndian.{be}
+use Rattle.laws.specs.Choice.{both}
+use Rattle.uvs.specs.NonDefault.{mappingAt, keepsMapping, missing}
+
+-- the mapping at p can be read, and looked up in the lists
+pub record Mapping (xs : List ℕ) (p : ℕ) (kept requested : List ℕ) : Type 0 where
+  pub inside : p + 5 ≤ length xs
+  pub kept-rises : Rising kept
+  pub requested-rises : Rising requested
+
+-- the whole table can be read
+pub record Table (xs : List ℕ) (p : ℕ) (kept requested : List ℕ) : Type 0 where
+  pub head : p + 4 ≤ length xs
+  pub inside : p + 4 + 5 * be 4 xs p ≤ length xs
+  pub kept-rises : Rising kept
+  pub requested-rises : Rising requested
+
+-- mapping i is to be kept and names a glyph that the map misses
+abbrev pub badAt : List ℕ → ℕ → List ℕ → List ℕ → List ℕ → ℕ → Bool
+badAt xs p kept map requested i = both (keepsMapping kept requested (mappingAt xs p i)) (missing map (mappingAt xs p i .1))

@@ -1,0 +1,89 @@
+// The new non-default table of a selector record: whether it names a missing glyph, how long it is, and its bytes.
+ghost use mathlib.Core.Path.{_≡_};
+ghost use Prim.Native.Nat.{_+_, _*_, _<_, _≤_};
+ghost use lib.ListN.{length, getD};
+ghost use lib.Seq.{sets};
+ghost use Rattle.laws.specs.Choice.{both};
+ghost use Rattle.laws.specs.Select.{flat};
+ghost use Rattle.number.specs.BigEndian.{be};
+ghost use Rattle.number.specs.Limits.{absent};
+ghost use Rattle.uvs.specs.NonDefault.{mapping, keepsMapping, keptMappings, mappingBytes, newNonDefault, badMapping};
+ghost use Rattle.non_default_uvs.specs.Lent.{Mapping, Table, badAt};
+
+// Whether the mapping at `place` stays: its code point is kept, or its old glyph requested.
+fn keeps_mapping(s: &[u8], place: usize, kept: &[u32], requested: &[u16]) -> bool
+    requires { ⌜ Mapping (now s) place (now kept) (now requested) ⌝ }
+    ensures { λ r. ⌜ r ≡ keepsMapping (now (kept .entry)) (now (requested .entry)) (mapping (now (s .entry)) place) ⌝ }
+{
+    if marks::member(kept, number::u24_at(s, place)) {
+        return true;
+    }
+    marks::member_glyph(requested, number::u16_at(s, place + 3) as u16)
+}
+
+// The new glyph of an old one; 65,535 where the map has none.
+fn new_glyph(map: &[u16], old: u32) -> u16
+    ensures { λ r. ⌜ r ≡ getD (now (map .entry)) old absent ⌝ }
+{
+    if (old as usize) < map.len() {
+        return map[old as usize];
+    }
+    number::limits::NewGlyph::ABSENT
+}
+
+// Whether mapping i is to be kept and names a glyph that the map misses.
+fn is_bad(s: &[u8], p: usize, kept: &[u32], map: &[u16], requested: &[u16], i: usize) -> bool
+    requires { ⌜ Mapping (now s) (p + 4 + 5 * i) (now kept) (now requested) ⌝ }
+    ensures { λ r. ⌜ r ≡ badAt (now (s .entry)) p (now (kept .entry)) (now (map .entry)) (now (requested .entry)) i ⌝ }
+{
+    let place = p + 4 + 5 * i;
+    if keeps_mapping(s, place, kept, requested) {
+        return new_glyph(map, number::u16_at(s, place + 3)) == number::limits::NewGlyph::ABSENT;
+    }
+    false
+}
+
+// Refusal 8: whether some mapping to be kept names a glyph that the map misses.
+pub fn bad_mapping(s: &[u8], p: usize, kept: &[u32], map: &[u16], requested: &[u16]) -> bool
+    requires { ⌜ Table (now s) p (now kept) (now requested) ⌝ }
+    ensures { λ r. ⌜ r ≡ badMapping (now (s .entry)) p (now (kept .entry)) (now (map .entry)) (now (requested .entry)) ⌝ }
+{
+    let m = number::u32_at(s, p) as usize;
+    let mut i = 0;
+    while i < m {
+        if is_bad(s, p, kept, map, requested, i) {
+            return true;
+        }
+        i += 1;
+    }
+    false
+}
+
+// How many mappings stay.
+fn count_mappings(s: &[u8], p: usize, kept: &[u32], requested: &[u16]) -> usize
+    requires { ⌜ Table (now s) p (now kept) (now requested) ⌝ }
+    ensures { λ r. ⌜ r ≡ length (keptMappings (now (s .entry)) p (now (kept .entry)) (now (requested .entry))) ⌝ }
+{
+    let m = number::u32_at(s, p) as usize;
+    let mut i = 0;
+    let mut n = 0;
+    while i < m {
+        let stays = keeps_mapping(s, p + 4 + 5 * i, kept, requested);
+        i += 1;
+        if stays {
+            n += 1;
+        }
+    }
+    n
+}
+
+// Writes a mapping's code point and new glyph.
+fn copy_uvs_mapping(out: &mut [u8], to: usize, s: &[u8], place: usize, map: &[u16])
+    requires { ⌜ (to + 5 ≤ length (now out)) × (place + 5 ≤ length (now s)) ⌝ }
+    ensures { λ _. ⌜ now (out .exit) ≡ sets (now (out .entry)) to (mappingBytes (now (map .entry)) (mapping (now (s .entry)) place)) ⌝ }
+{
+    let c = number::u24_at(s, place);
+    let g = new_glyph(map, number::u16_at(s, place + 3));
+    number::put_u24(out, to, c);
+    number::put_u16(out, to + 3, g as u32);
+}
