@@ -6,7 +6,7 @@ use mathlib.Core.Bool.{Bool, true, false}
 use native.Mathlib.Omega.{arith}
 use native.Mathlib.Nat.{not-suc-le-zero}
 use borrow.Author.Tests.{lt-leb, le-leb, eq-eqb}
-use lib.ListN.{length, getD, List·getD-eq-default}
+use lib.ListN.{length, getD, length-append, List·getD-eq-default}
 use lib.Dec.{eqb}
 use lib.Seq.{sets}
 use Rattle.laws.proofs.ChoiceLaws.{by-leb}
@@ -14,11 +14,13 @@ use Rattle.marks.specs.Marks.{holds}
 use Rattle.number.specs.BigEndian.{be, enc, put, Num}
 use Rattle.number.proofs.BigEndianLaws.{put-after, length-enc}
 use Rattle.number.specs.Limits.{absent}
+use Rattle.laws.specs.Lists.{Pair}
+use Rattle.laws.specs.Select.{flat}
 use Rattle.laws.specs.Search.{some}
-use Rattle.laws.proofs.SelectLaws.{any-select, Counting, counting-end}
+use Rattle.laws.proofs.SelectLaws.{any-select, Counting, counting-end, Copying, copying-start, copying-room, copying-yes, copying-no, copying-end}
 use Rattle.laws.proofs.SearchLaws.{Asking, asking-yes, asking-no}
 use Rattle.uvs.specs.NonDefault.{mapping, mappingAt, mappingBytes, keepsMapping, keptMappings, missing, badMapping}
-use Rattle.non_default_uvs.specs.Lent.{badAt}
+use Rattle.non_default_uvs.specs.Lent.{Count, badAt}
 
 -- ---- keepsMapping
 
@@ -81,8 +83,11 @@ module _ (xs : List ℕ) (p : ℕ) (kept map requested : List ℕ) (m i : ℕ) (
 pub ruleset bad-table = (bad-found, bad-none)
 
 pub count-all : (xs : List ℕ) (p : ℕ) (kept requested : List ℕ) (m i k : ℕ) → Num 4 xs p m → Counting (keepsMapping kept requested) (mappingAt xs p) m i k → m ≤ i
-    → k ≡ length (keptMappings xs p kept requested)
-count-all xs p kept requested m i k n l h = rw (n .is) at (counting-end (keepsMapping kept requested) (mappingAt xs p) m i k l h)
+    → Count xs p kept requested k
+count-all xs p kept requested m i k n l h = record {
+  is = rw (n .is) at (counting-end (keepsMapping kept requested) (mappingAt xs p) m i k l h);
+  below = omega (arith, l .few, l .within, n .below);
+}
 
 -- ---- one mapping written
 
@@ -92,3 +97,31 @@ pub copy-is : (xs : List ℕ) (place : ℕ) (map out mid fin : List ℕ) (to c g
 unfolding put
 copy-is xs place map out mid fin to c g n hc hg hn e d =
     rw (d, e, ← hc .is, ← hg .is, ← hn) (put-after 2 out to (enc 3 c) n (to + 3) (rw (length-enc 3 c)))
+
+pub mapping-size : (map : List ℕ) (m : Pair) → length (mappingBytes map m) ≡ 5
+mapping-size map m = rw (length-append, length-enc 3 (m .0), length-enc 2 (getD map (m .1) absent))
+
+-- ---- all that stay, written one after the other
+
+module _ (xs : List ℕ) (p : ℕ) (kept map requested : List ℕ) (m : ℕ) (out₀ : List ℕ) (to : ℕ) where
+  -- the loop's invariant
+  abbrev pub Copies : List ℕ → ℕ → ℕ → Type 0
+  Copies out place i = Copying (mappingBytes map) (keepsMapping kept requested) (mappingAt xs p) m out₀ to out place i
+
+  pub copies-start : Num 4 xs p m → to + length (flat (mappingBytes map) (keptMappings xs p kept requested)) ≤ length out₀ → Copies out₀ to 0
+  copies-start n h = copying-start (mappingBytes map) (keepsMapping kept requested) (mappingAt xs p) m out₀ to (rw (n .is) h)
+
+  module _ (out : List ℕ) (place i : ℕ) (b : Bool) (l : Copies out place i) (h : i < m) (e : b ≡ keepsMapping kept requested (mappingAt xs p i)) where
+    pub copies-room : b ≡ true → place + 5 ≤ length out
+    copies-room t = rw (mapping-size map (mappingAt xs p i)) at (copying-room (mappingBytes map) (keepsMapping kept requested) (mappingAt xs p) m out₀ to out place i b l h e t)
+
+    pub copies-yes : b ≡ true → (next : List ℕ) → next ≡ sets out place (mappingBytes map (mappingAt xs p i)) → Copies next (place + 5) (i + 1)
+    copies-yes t next d = rw (mapping-size map (mappingAt xs p i)) at (copying-yes (mappingBytes map) (keepsMapping kept requested) (mappingAt xs p) m out₀ to out place i b l h e t next d)
+
+    pub copies-no : b ≡ false → Copies out place (i + 1)
+    copies-no t = copying-no (mappingBytes map) (keepsMapping kept requested) (mappingAt xs p) m out₀ to out place i b l h e t
+
+  pub copies-end : Num 4 xs p m → (out : List ℕ) (place i : ℕ) → Copies out place i → m ≤ i → out ≡ sets out₀ to (flat (mappingBytes map) (keptMappings xs p kept requested))
+  copies-end n out place i l h = rw (n .is) at (copying-end (mappingBytes map) (keepsMapping kept requested) (mappingAt xs p) m out₀ to out place i l h)
+
+pub ruleset copies = (copies-start, copies-yes, copies-no, copies-end)

@@ -1,12 +1,13 @@
 -- What the functions of a non-default table are lent, the table at p inside the source and the lists in order, and what is asked of one mapping.
-use Prim.Native.Nat.{ℕ, _+_, _*_, _≤_}
+use Prim.Native.Nat.{ℕ, _+_, _*_, _^_, _<_, _≤_}
 use mathlib.Core.List.{List}
 use mathlib.Core.Bool.{Bool}
+use mathlib.Core.Path.{_≡_}
 use lib.ListN.{length}
 use Rattle.laws.specs.Lists.{Rising}
 use Rattle.number.specs.BigEndian.{be}
 use Rattle.laws.specs.Choice.{both}
-use Rattle.uvs.specs.NonDefault.{mappingAt, keepsMapping, missing}
+use Rattle.uvs.specs.NonDefault.{mappingAt, keepsMapping, keptMappings, missing}
 
 -- the mapping at p can be read, and looked up in the lists
 pub record Mapping (xs : List ℕ) (p : ℕ) (kept requested : List ℕ) : Type 0 where
@@ -20,6 +21,11 @@ pub record Table (xs : List ℕ) (p : ℕ) (kept requested : List ℕ) : Type 0 
   pub inside : p + 4 + 5 * be 4 xs p ≤ length xs
   pub kept-rises : Rising kept
   pub requested-rises : Rising requested
+
+-- how many mappings stay, and its bound
+pub record Count (xs : List ℕ) (p : ℕ) (kept requested : List ℕ) (r : ℕ) : Type 0 where
+  pub is : r ≡ length (keptMappings xs p kept requested)
+  pub below : r < 256 ^ 4
 
 -- mapping i is to be kept and names a glyph that the map misses
 abbrev pub badAt : List ℕ → ℕ → List ℕ → List ℕ → List ℕ → ℕ → Bool

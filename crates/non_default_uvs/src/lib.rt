@@ -8,7 +8,7 @@ ghost use Rattle.laws.specs.Select.{flat};
 ghost use Rattle.number.specs.BigEndian.{be};
 ghost use Rattle.number.specs.Limits.{absent};
 ghost use Rattle.uvs.specs.NonDefault.{mapping, keepsMapping, keptMappings, mappingBytes, newNonDefault, badMapping};
-ghost use Rattle.non_default_uvs.specs.Lent.{Mapping, Table, badAt};
+ghost use Rattle.non_default_uvs.specs.Lent.{Mapping, Table, Count, badAt};
 
 // Whether the mapping at `place` stays: its code point is kept, or its old glyph requested.
 fn keeps_mapping(s: &[u8], place: usize, kept: &[u32], requested: &[u16]) -> bool
@@ -62,7 +62,7 @@ pub fn bad_mapping(s: &[u8], p: usize, kept: &[u32], map: &[u16], requested: &[u
 // How many mappings stay.
 fn count_mappings(s: &[u8], p: usize, kept: &[u32], requested: &[u16]) -> usize
     requires { ⌜ Table (now s) p (now kept) (now requested) ⌝ }
-    ensures { λ r. ⌜ r ≡ length (keptMappings (now (s .entry)) p (now (kept .entry)) (now (requested .entry))) ⌝ }
+    ensures { λ r. ⌜ Count (now (s .entry)) p (now (kept .entry)) (now (requested .entry)) r ⌝ }
 {
     let m = number::u32_at(s, p) as usize;
     let mut i = 0;
@@ -86,4 +86,66 @@ fn copy_uvs_mapping(out: &mut [u8], to: usize, s: &[u8], place: usize, map: &[u1
     let g = new_glyph(map, number::u16_at(s, place + 3));
     number::put_u24(out, to, c);
     number::put_u16(out, to + 3, g as u32);
+}
+
+// Writes every mapping that stays, in the source's order.
+fn copy_mappings(
+    out: &mut [u8],
+    to: usize,
+    s: &[u8],
+    p: usize,
+    kept: &[u32],
+    map: &[u16],
+    requested: &[u16],
+)
+    requires { ⌜ Table (now s) p (now kept) (now requested) ⌝ }
+    requires { ⌜ to + length (flat (mappingBytes (now map)) (keptMappings (now s) p (now kept) (now requested))) ≤ length (now out) ⌝ }
+    ensures { λ _. ⌜ now (out .exit) ≡ sets (now (out .entry)) to (flat (mappingBytes (now (map .entry))) (keptMappings (now (s .entry)) p (now (kept .entry)) (now (requested .entry)))) ⌝ }
+{
+    let m = number::u32_at(s, p) as usize;
+    let mut i = 0;
+    let mut place = to;
+    while i < m {
+        let from = p + 4 + 5 * i;
+        let stays = keeps_mapping(s, from, kept, requested);
+        i += 1;
+        if stays {
+            copy_uvs_mapping(out, place, s, from, map);
+            place += 5;
+        }
+    }
+}
+
+// How long the new table is: 0 where there is none.
+pub fn non_default_size(s: &[u8], p: usize, kept: &[u32], map: &[u16], requested: &[u16]) -> usize
+    requires { ⌜ Table (now s) p (now kept) (now requested) ⌝ }
+    ensures { λ r. ⌜ r ≡ length (newNonDefault (now (s .entry)) p (now (kept .entry)) (now (map .entry)) (now (requested .entry))) ⌝ }
+{
+    let n = count_mappings(s, p, kept, requested);
+    if n == 0 {
+        return 0;
+    }
+    4 + 5 * n
+}
+
+// Writes the new table; nothing where there is none.
+pub fn copy_non_default_uvs(
+    out: &mut [u8],
+    to: usize,
+    s: &[u8],
+    p: usize,
+    kept: &[u32],
+    map: &[u16],
+    requested: &[u16],
+)
+    requires { ⌜ Table (now s) p (now kept) (now requested) ⌝ }
+    requires { ⌜ to + length (newNonDefault (now s) p (now kept) (now map) (now requested)) ≤ length (now out) ⌝ }
+    ensures { λ _. ⌜ now (out .exit) ≡ sets (now (out .entry)) to (newNonDefault (now (s .entry)) p (now (kept .entry)) (now (map .entry)) (now (requested .entry))) ⌝ }
+{
+    let n = count_mappings(s, p, kept, requested);
+    if n == 0 {
+        return;
+    }
+    number::put_u32(out, to, n as u32);
+    copy_mappings(out, to + 4, s, p, kept, map, requested);
 }

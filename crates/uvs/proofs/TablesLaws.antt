@@ -1,14 +1,19 @@
 -- When a table counts, read off the tests of the code; how long a new table is.
 use Prim.Native.Nat.{ℕ, suc, _+_, _*_, _^_, _<_, _≤_}
 use mathlib.Core.Path.{_≡_, refl, sym, ap, _∙_}
-use mathlib.Core.List.{List}
+use mathlib.Core.List.{List, [], _∷_, _++_}
 use mathlib.Core.Bool.{Bool, true, false}
 use native.Mathlib.Nat.{mul-le-mul-right}
 use native.Mathlib.Omega.{arith}
 use borrow.Author.Tests.{lt-ltb, le-ltb, le-leb, lt-leb}
 use lib.Dec.{leb}
-use Rattle.number.specs.BigEndian.{be, Num}
-use Rattle.uvs.specs.Tables.{counts}
+use lib.ListN.{length, length-append}
+use lib.Seq.{sets}
+use Rattle.laws.specs.Select.{flat}
+use Rattle.laws.proofs.SelectLaws.{length-flat}
+use Rattle.number.specs.BigEndian.{be, enc, put, Num}
+use Rattle.number.proofs.BigEndianLaws.{length-enc, length-put, put-left}
+use Rattle.uvs.specs.Tables.{counts, table}
 
 -- ---- counts
 
@@ -30,3 +35,48 @@ pub ruleset counts-rules = (counts-zero, counts-past, counts-fits)
 -- as many records as four bytes tell, of five bytes at most
 pub product-below : (size n : ℕ) → size ≤ 5 → n < 256 ^ 4 → size * n < 21474836480
 product-below size n s h = omega (arith, mul-le-mul-right n s)
+
+-- ---- table
+
+-- n is the code's count of the records
+module _ {A : Type 0} (w : A → List ℕ) (xs : List A) (n : ℕ) (e : n ≡ length xs) where
+  pub table-none : n ≡ 0 → table w xs ≡ []
+  unfolding table
+  table-none z = none xs (sym e ∙ z)
+    where
+      none : (xs : List A) → length xs ≡ 0 → table w xs ≡ []
+      none [] h = refl
+      none (x ∷ xs) h = absurd (omega arith)
+
+  pub table-some : (n ≡ 0 → ⊥) → table w xs ≡ enc 4 n ++ flat w xs
+  unfolding table
+  table-some z = rw e (some xs (λ h. z (e ∙ h)))
+    where
+      some : (xs : List A) → (length xs ≡ 0 → ⊥) → table w xs ≡ enc 4 (length xs) ++ flat w xs
+      some [] h = absurd (h refl)
+      some (x ∷ xs) h = refl
+
+  pub size-none : n ≡ 0 → 0 ≡ length (table w xs)
+  size-none z = rw (table-none z)
+
+  pub size-some : (size : ℕ) → ((x : A) → length (w x) ≡ size) → (n ≡ 0 → ⊥) → 4 + size * n ≡ length (table w xs)
+  size-some size h z = rw (table-some z, length-append, length-enc, length-flat w size h xs, ← e)
+
+  module _ (out : List ℕ) (to : ℕ) where
+    pub write-none : n ≡ 0 → out ≡ sets out to (table w xs)
+    write-none z = rw (table-none z)
+
+    pub write-head : to + length (table w xs) ≤ length out → (n ≡ 0 → ⊥) → to + 4 ≤ length out
+    write-head r z =
+        let k = rw (table-some z, length-append, length-enc) at r in
+        omega (arith, k)
+
+    pub write-room : (mid : List ℕ) → mid ≡ put 4 out to n → to + length (table w xs) ≤ length out → (n ≡ 0 → ⊥) → to + 4 + length (flat w xs) ≤ length mid
+    write-room mid d r z =
+        let k = rw (table-some z, length-append, length-enc) at r in
+        rw (d, length-put 4 out to n) (omega (arith, k))
+
+    pub write-some : (n ≡ 0 → ⊥) → (mid fin : List ℕ) → mid ≡ put 4 out to n → fin ≡ sets mid (to + 4) (flat w xs) → fin ≡ sets out to (table w xs)
+    write-some z mid fin d f = rw (f, d, table-some z) (put-left 4 out to n (flat w xs))
+
+pub ruleset writes = (write-none, write-some)
