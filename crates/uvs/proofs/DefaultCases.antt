@@ -6,7 +6,7 @@ use Rattle.laws.specs.Lists.{Pair}
 use Rattle.laws.specs.Search.{first}
 use Rattle.laws.specs.Select.{each, select, anyOf}
 use Rattle.number.specs.BigEndian.{be}
-use Rattle.uvs.specs.Default.{inRanges, bitLength, covers, coveredPoints, longRanges, longest, follow}
+use Rattle.uvs.specs.Default.{inRanges, bitLength, coveredPoints, longRanges, longest, follow}
 
 -- C9: nine ranges and two kept points give ranges, eight give single points
 pub nine-ranges : inRanges 9 (0x41 ∷ 0x42 ∷ []) ≡ true
@@ -24,7 +24,7 @@ none-single = refl
 
 -- points inside a range are covered: one range of 0x41 and two more
 pub inside-covered : coveredPoints (0 ∷ 0 ∷ 0 ∷ 1 ∷ 0 ∷ 0 ∷ 0x41 ∷ 2 ∷ []) 0 (0x40 ∷ 0x42 ∷ 0x43 ∷ 0x44 ∷ []) ≡ 0x42 ∷ 0x43 ∷ []
-unfolding select anyOf each covers be
+unfolding select anyOf each be
 inside-covered = refl
 
 -- adjacent points share a range, a gap begins another

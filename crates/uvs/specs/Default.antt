@@ -2,12 +2,13 @@
 use Prim.Native.Nat.{ℕ, zero, suc, _+_, _*_, _^_}
 use mathlib.Core.List.{List, [], _∷_, _++_, map}
 use mathlib.Core.Bool.{Bool}
-use lib.Dec.{ltb, leb, eqb}
+use lib.Dec.{ltb, eqb}
 use lib.ListN.{length, getD}
-use Rattle.laws.specs.Choice.{pick, both}
+use Rattle.laws.specs.Choice.{pick}
 use Rattle.laws.specs.Search.{first}
 use Rattle.laws.specs.Select.{each, select, anyOf}
 use Rattle.laws.specs.Lists.{Pair}
+use Rattle.marks.specs.Marks.{between}
 use Rattle.number.specs.BigEndian.{be, enc}
 use Rattle.uvs.specs.Tables.{table}
 
@@ -23,12 +24,16 @@ abbrev pub ranges : List ℕ → ℕ → List Pair
 ranges xs p = each (rangeAt xs p) (be 4 xs p) 0
 
 -- a range covers its start and as many points after it as its additional count says
-unfoldable pub covers : ℕ → Pair → Bool
-covers c a = both (leb (a .0) c) (leb c (a .0 + a .1))
+abbrev pub covers : ℕ → Pair → Bool
+covers c a = between (a .0) (a .0 + a .1) c
 
--- the kept points covered by any range
+-- covered by any range
+abbrev pub coveredBy : List ℕ → ℕ → ℕ → Bool
+coveredBy xs p c = anyOf (covers c) (ranges xs p)
+
+-- the kept points that are covered
 abbrev pub coveredPoints : List ℕ → ℕ → List ℕ → List ℕ
-coveredPoints xs p kept = select (λ c. anyOf (covers c) (ranges xs p)) kept
+coveredPoints xs p kept = select (coveredBy xs p) kept
 
 -- the least b with r below 2^b: 0 for 0, 4 for 8 to 15
 unfoldable pub bitLength : ℕ → ℕ
