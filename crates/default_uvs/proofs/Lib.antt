@@ -1,3 +1,4 @@
 pub mod BitsLaws
 pub mod CoverLaws
 pub mod StreamLaws
+pub mod NewLaws

@@ -207,7 +207,7 @@ pub record Written (most : ℕ) (ks fs out₀ : List ℕ) (to : ℕ) (out : List
   pub room : place + length (flat rangeBytes (records most ks fs i)) ≤ length out
   pub left : sets out place (flat rangeBytes (records most ks fs i)) ≡ sets out₀ to (flat rangeBytes (records most ks fs 0))
 
-range-size : (a : Pair) → length (rangeBytes a) ≡ 4
+pub range-size : (a : Pair) → length (rangeBytes a) ≡ 4
 range-size a = rw (length-append, length-enc 3 (a .0), length-enc 1 (a .1))
 
 module _ (most : ℕ) (ks fs out₀ : List ℕ) (to : ℕ) where

@@ -6,6 +6,7 @@ ghost use lib.Seq.{sets};
 ghost use lib.Dec.{eqb};
 ghost use Rattle.laws.specs.Select.{flat};
 ghost use Rattle.marks.specs.Marks.{marked, flagged, Flags};
+ghost use Rattle.number.specs.BigEndian.{be};
 ghost use Rattle.uvs.specs.Default.{range, covers, coveredBy, bitLength, rangeBytes, newDefault};
 ghost use Rattle.default_uvs.specs.Stream.{Lent, Beside, Point, Start, Next, Count, records, mostOf};
 
@@ -146,4 +147,51 @@ fn copy_ranges(out: &mut [u8], to: usize, kept: &[u32], flags: &[u8], most: u32)
         i = r.next;
         place += 4;
     }
+}
+
+// Flags the covered points, and tells how many may follow a record's start.
+fn prepare(flags: &mut [u8], s: &[u8], p: usize, kept: &[u32]) -> u32
+    requires { ⌜ Lent (now s) p (now kept) (now flags) ⌝ }
+    ensures { λ most. ⌜ most ≡ mostOf (be 4 (now (s .entry)) p) (now (kept .entry)) ⌝ }
+    ensures { λ _. ⌜ now (flags .exit) ≡ sets (now (flags .entry)) 0 (flagged (coveredBy (now (s .entry)) p) (now (kept .entry))) ⌝ }
+{
+    cover(flags, s, p, kept);
+    most_additional(number::u32_at(s, p), kept)
+}
+
+// How long the new table is: 0 where there is none.
+pub fn default_size(s: &[u8], p: usize, kept: &[u32], flags: &mut [u8]) -> usize
+    requires { ⌜ Lent (now s) p (now kept) (now flags) ⌝ }
+    ensures { λ r. ⌜ r ≡ length (newDefault (now (s .entry)) p (now (kept .entry))) ⌝ }
+    ensures { λ _. ⌜ now (flags .exit) ≡ sets (now (flags .entry)) 0 (flagged (coveredBy (now (s .entry)) p) (now (kept .entry))) ⌝ }
+{
+    let most = prepare(flags, s, p, kept);
+    let n = count_ranges(kept, flags, most);
+    if n == 0 {
+        return 0;
+    }
+    4 + 4 * n
+}
+
+// Writes the new table; nothing where there is none.
+pub fn copy_default_uvs(
+    out: &mut [u8],
+    to: usize,
+    s: &[u8],
+    p: usize,
+    kept: &[u32],
+    flags: &mut [u8],
+)
+    requires { ⌜ Lent (now s) p (now kept) (now flags) ⌝ }
+    requires { ⌜ to + length (newDefault (now s) p (now kept)) ≤ length (now out) ⌝ }
+    ensures { λ _. ⌜ now (out .exit) ≡ sets (now (out .entry)) to (newDefault (now (s .entry)) p (now (kept .entry))) ⌝ }
+    ensures { λ _. ⌜ now (flags .exit) ≡ sets (now (flags .entry)) 0 (flagged (coveredBy (now (s .entry)) p) (now (kept .entry))) ⌝ }
+{
+    let most = prepare(flags, s, p, kept);
+    let n = count_ranges(kept, flags, most);
+    if n == 0 {
+        return;
+    }
+    number::put_u32(out, to, n as u32);
+    copy_ranges(out, to + 4, kept, flags, most);
 }
