@@ -5,8 +5,10 @@ use mathlib.Core.List.{List, [], _∷_, _++_}
 use mathlib.Core.Bool.{Bool, true, false}
 use native.Mathlib.Nat.{mul-le-mul-right}
 use native.Mathlib.Omega.{arith}
-use borrow.Author.Tests.{lt-ltb, le-ltb, le-leb, lt-leb}
-use lib.Dec.{leb}
+use borrow.Author.Tests.{leb-true, lt-ltb, le-ltb, le-leb, lt-leb}
+use lib.Dec.{ltb, leb}
+use Rattle.laws.specs.Choice.{both}
+use Rattle.laws.proofs.ChoiceLaws.{both-left, both-right}
 use lib.ListN.{length, length-append}
 use lib.Seq.{sets}
 use Rattle.laws.specs.Select.{flat}
@@ -29,6 +31,20 @@ module _ (size : ℕ) (xs : List ℕ) (at len off : ℕ) where
   pub counts-fits : (off ≡ 0 → ⊥) → off + 4 ≤ len → {n : ℕ} → Num 4 xs (at + off) n → leb (off + 4 + size * n) len ≡ counts size xs at len off
   unfolding counts
   counts-fits z h q = rw (lt-ltb 0 off (omega arith), le-leb (off + 4) len h, q .is)
+
+-- what a table that counts may be asked for
+module _ (size : ℕ) (xs : List ℕ) (at len off : ℕ) (inside : at + len ≤ length xs) (e : counts size xs at len off ≡ true) where
+  pub counts-head : at + off + 4 ≤ length xs
+  unfolding counts
+  counts-head =
+      let h = leb-true (off + 4) len (both-left (leb (off + 4) len) (leb (off + 4 + size * be 4 xs (at + off)) len) (both-right (ltb 0 off) (both (leb (off + 4) len) (leb (off + 4 + size * be 4 xs (at + off)) len)) e)) in
+      omega arith
+
+  pub counts-inside : at + off + 4 + size * be 4 xs (at + off) ≤ length xs
+  unfolding counts
+  counts-inside =
+      let h = leb-true (off + 4 + size * be 4 xs (at + off)) len (both-right (leb (off + 4) len) (leb (off + 4 + size * be 4 xs (at + off)) len) (both-right (ltb 0 off) (both (leb (off + 4) len) (leb (off + 4 + size * be 4 xs (at + off)) len)) e)) in
+      omega arith
 
 pub ruleset counts-rules = (counts-zero, counts-past, counts-fits)
 
