@@ -4,3 +4,5 @@ pub mod SetsLaws
 pub mod RisingLaws
 pub mod PiecesLaws
 pub mod SelectLaws
+pub mod EqListLaws
+pub mod ReadLaws

@@ -1,15 +1,15 @@
 -- Which mappings stay, which glyph a map gives, and which it misses: the code's answers are the definitions'.
-use Prim.Native.Nat.{ℕ, zero, suc, _+_, _*_, _<_, _≤_}
+use Prim.Native.Nat.{ℕ, zero, suc, _+_, _*_, _^_, _<_, _≤_}
 use mathlib.Core.Path.{_≡_, refl, sym, ap, _∙_}
 use mathlib.Core.List.{List, [], _∷_}
 use mathlib.Core.Bool.{Bool, true, false}
 use native.Mathlib.Omega.{arith}
-use native.Mathlib.Nat.{not-suc-le-zero}
 use borrow.Author.Tests.{lt-leb, le-leb, eq-eqb}
 use lib.ListN.{length, getD, length-append, List·getD-eq-default}
 use lib.Dec.{eqb}
 use lib.Seq.{sets}
 use Rattle.laws.proofs.ChoiceLaws.{by-leb}
+use Rattle.laws.proofs.ReadLaws.{getD-in}
 use Rattle.marks.specs.Marks.{holds}
 use Rattle.number.specs.BigEndian.{be, enc, put, Num}
 use Rattle.number.proofs.BigEndianLaws.{put-after, length-enc}
@@ -20,7 +20,7 @@ use Rattle.laws.specs.Search.{some}
 use Rattle.laws.proofs.SelectLaws.{any-select, Counting, counting-end, Copying, copying-start, copying-room, copying-yes, copying-no, copying-end}
 use Rattle.laws.proofs.SearchLaws.{Asking, asking-yes, asking-no}
 use Rattle.uvs.specs.NonDefault.{mapping, mappingAt, mappingBytes, keepsMapping, keptMappings, missing, badMapping}
-use Rattle.non_default_uvs.specs.Lent.{Count, badAt}
+use Rattle.non_default_uvs.specs.Lent.{Count, New, badAt}
 
 -- ---- keepsMapping
 
@@ -38,22 +38,17 @@ pub ruleset keeps-rules = (keeps-kept, keeps-asked)
 
 -- ---- the map
 
-pub getD-in : (xs : List ℕ) (i a b : ℕ) → i < length xs → getD xs i a ≡ getD xs i b
-getD-in [] i a b h = absurd (not-suc-le-zero h)
-getD-in (x ∷ xs) zero a b h = refl
-getD-in (x ∷ xs) (suc i) a b h = getD-in xs i a b (omega arith)
+pub new-in : (map : List ℕ) (g : ℕ) → g < length map → getD map g 0 < 256 ^ 2 → New map g (getD map g 0)
+new-in map g h l = record { is = getD-in map g 0 absent h; below = l }
 
-pub new-in : (map : List ℕ) (g : ℕ) → g < length map → getD map g 0 ≡ getD map g absent
-new-in map g h = getD-in map g 0 absent h
-
-pub new-past : (map : List ℕ) (g : ℕ) → length map ≤ g → absent ≡ getD map g absent
-new-past map g h = sym (List·getD-eq-default map absent h)
+pub new-past : (map : List ℕ) (g : ℕ) → length map ≤ g → New map g absent
+new-past map g h = record { is = sym (List·getD-eq-default map absent h); below = omega arith }
 
 -- a glyph is missing exactly where the map's entry, taken as absent past the end, is absent
 pub missing-absent : (map : List ℕ) (g : ℕ) → missing map g ≡ eqb (getD map g absent) absent
 unfolding missing
 missing-absent map g = by-leb (missing map g ≡ eqb (getD map g absent) absent) (length map) g
-  (λ h. rw (le-leb (length map) g h, ← new-past map g h))
+  (λ h. rw (le-leb (length map) g h, List·getD-eq-default map absent h))
   (λ h. rw (lt-leb (length map) g h))
 
 -- ---- one mapping
@@ -62,8 +57,8 @@ module _ (xs : List ℕ) (p : ℕ) (kept map requested : List ℕ) (i : ℕ) (b 
   pub bad-not : b ≡ false → false ≡ badAt xs p kept map requested i
   bad-not t = rw (← e, t)
 
-  pub bad-looked : b ≡ true → (g n : ℕ) → Num 2 xs (p + 4 + 5 * i + 3) g → n ≡ getD map g absent → eqb n absent ≡ badAt xs p kept map requested i
-  bad-looked t g n m d = rw (← e, t, missing-absent map (be 2 xs (p + 4 + 5 * i + 3)), ← m .is, d)
+  pub bad-looked : b ≡ true → (g n : ℕ) → Num 2 xs (p + 4 + 5 * i + 3) g → New map g n → eqb n absent ≡ badAt xs p kept map requested i
+  bad-looked t g n m d = rw (← e, t, missing-absent map (be 2 xs (p + 4 + 5 * i + 3)), ← m .is, d .is)
 
 pub ruleset bad-rules = (bad-not, bad-looked)
 
@@ -92,11 +87,11 @@ count-all xs p kept requested m i k n l h = record {
 -- ---- one mapping written
 
 -- the code point, then the new glyph behind it
-pub copy-is : (xs : List ℕ) (place : ℕ) (map out mid fin : List ℕ) (to c g n : ℕ) → Num 3 xs place c → Num 2 xs (place + 3) g → n ≡ getD map g absent
+pub copy-is : (xs : List ℕ) (place : ℕ) (map out mid fin : List ℕ) (to c g n : ℕ) → Num 3 xs place c → Num 2 xs (place + 3) g → New map g n
     → mid ≡ put 3 out to c → fin ≡ put 2 mid (to + 3) n → fin ≡ sets out to (mappingBytes map (mapping xs place))
 unfolding put
 copy-is xs place map out mid fin to c g n hc hg hn e d =
-    rw (d, e, ← hc .is, ← hg .is, ← hn) (put-after 2 out to (enc 3 c) n (to + 3) (rw (length-enc 3 c)))
+    rw (d, e, ← hc .is, ← hg .is, ← hn .is) (put-after 2 out to (enc 3 c) n (to + 3) (rw (length-enc 3 c)))
 
 pub mapping-size : (map : List ℕ) (m : Pair) → length (mappingBytes map m) ≡ 5
 mapping-size map m = rw (length-append, length-enc 3 (m .0), length-enc 2 (getD map (m .1) absent))

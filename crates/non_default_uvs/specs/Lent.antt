@@ -3,9 +3,10 @@ use Prim.Native.Nat.{ℕ, _+_, _*_, _^_, _<_, _≤_}
 use mathlib.Core.List.{List}
 use mathlib.Core.Bool.{Bool}
 use mathlib.Core.Path.{_≡_}
-use lib.ListN.{length}
+use lib.ListN.{length, getD}
 use Rattle.laws.specs.Lists.{Rising}
 use Rattle.number.specs.BigEndian.{be}
+use Rattle.number.specs.Limits.{absent}
 use Rattle.laws.specs.Choice.{both}
 use Rattle.uvs.specs.NonDefault.{mappingAt, keepsMapping, keptMappings, missing}
 
@@ -21,6 +22,11 @@ pub record Table (xs : List ℕ) (p : ℕ) (kept requested : List ℕ) : Type 0 
   pub inside : p + 4 + 5 * be 4 xs p ≤ length xs
   pub kept-rises : Rising kept
   pub requested-rises : Rising requested
+
+-- the new glyph r of the old one g, and its bound
+pub record New (map : List ℕ) (g r : ℕ) : Type 0 where
+  pub is : r ≡ getD map g absent
+  pub below : r < 256 ^ 2
 
 -- how many mappings stay, and its bound
 pub record Count (xs : List ℕ) (p : ℕ) (kept requested : List ℕ) (r : ℕ) : Type 0 where

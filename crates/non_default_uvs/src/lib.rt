@@ -1,17 +1,16 @@
 // The new non-default table of a selector record: whether it names a missing glyph, how long it is, and its bytes.
 ghost use mathlib.Core.Path.{_≡_};
 ghost use Prim.Native.Nat.{_+_, _*_, _<_, _≤_};
-ghost use lib.ListN.{length, getD};
+ghost use lib.ListN.{length};
 ghost use lib.Seq.{sets};
 ghost use Rattle.laws.specs.Choice.{both};
 ghost use Rattle.laws.specs.Select.{flat};
 ghost use Rattle.number.specs.BigEndian.{be};
-ghost use Rattle.number.specs.Limits.{absent};
 ghost use Rattle.uvs.specs.NonDefault.{mapping, keepsMapping, keptMappings, mappingBytes, newNonDefault, badMapping};
-ghost use Rattle.non_default_uvs.specs.Lent.{Mapping, Table, Count, badAt};
+ghost use Rattle.non_default_uvs.specs.Lent.{Mapping, Table, New, Count, badAt};
 
 // Whether the mapping at `place` stays: its code point is kept, or its old glyph requested.
-fn keeps_mapping(s: &[u8], place: usize, kept: &[u32], requested: &[u16]) -> bool
+pub fn keeps_mapping(s: &[u8], place: usize, kept: &[u32], requested: &[u16]) -> bool
     requires { ⌜ Mapping (now s) place (now kept) (now requested) ⌝ }
     ensures { λ r. ⌜ r ≡ keepsMapping (now (kept .entry)) (now (requested .entry)) (mapping (now (s .entry)) place) ⌝ }
 {
@@ -22,8 +21,8 @@ fn keeps_mapping(s: &[u8], place: usize, kept: &[u32], requested: &[u16]) -> boo
 }
 
 // The new glyph of an old one; 65,535 where the map has none.
-fn new_glyph(map: &[u16], old: u32) -> u16
-    ensures { λ r. ⌜ r ≡ getD (now (map .entry)) old absent ⌝ }
+pub fn new_glyph(map: &[u16], old: u32) -> u16
+    ensures { λ r. ⌜ New (now (map .entry)) old r ⌝ }
 {
     if (old as usize) < map.len() {
         return map[old as usize];

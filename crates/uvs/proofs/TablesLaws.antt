@@ -3,15 +3,16 @@ use Prim.Native.Nat.{ℕ, suc, _+_, _*_, _^_, _<_, _≤_}
 use mathlib.Core.Path.{_≡_, refl, sym, ap, _∙_}
 use mathlib.Core.List.{List, [], _∷_, _++_}
 use mathlib.Core.Bool.{Bool, true, false}
-use native.Mathlib.Nat.{mul-le-mul-right}
+use native.Mathlib.Nat.{mul-le-mul-right, eq-of-mul-eq-mul-left}
 use native.Mathlib.Omega.{arith}
 use borrow.Author.Tests.{leb-true, lt-ltb, le-ltb, le-leb, lt-leb}
 use lib.Dec.{ltb, leb}
-use Rattle.laws.specs.Choice.{both}
-use Rattle.laws.proofs.ChoiceLaws.{both-left, both-right}
+use Rattle.laws.specs.Choice.{pick, both}
+use Rattle.laws.proofs.ChoiceLaws.{both-left, both-right, pick-same}
 use lib.ListN.{length, length-append}
 use lib.Seq.{sets}
-use Rattle.laws.specs.Select.{flat}
+use Rattle.laws.specs.Select.{flat, eqList}
+use Rattle.laws.proofs.EqListLaws.{eq-refl, eq-true, eq-append, eq-none, none-eq}
 use Rattle.laws.proofs.SelectLaws.{length-flat}
 use Rattle.number.specs.BigEndian.{be, enc, put, Num}
 use Rattle.number.proofs.BigEndianLaws.{length-enc, length-put, put-left}
@@ -96,3 +97,26 @@ module _ {A : Type 0} (w : A → List ℕ) (xs : List A) (n : ℕ) (e : n ≡ le
     write-some z mid fin d f = rw (f, d, table-some z) (put-left 4 out to n (flat w xs))
 
 pub ruleset writes = (write-none, write-some)
+
+-- two tables are equal exactly where their records' bytes are
+pub eq-table : {A : Type 0} (w : A → List ℕ) (size : ℕ) → 0 < size → ((x : A) → length (w x) ≡ size) → (xs ys : List A)
+    → eqList (flat w xs) (flat w ys) ≡ eqList (table w xs) (table w ys)
+unfolding flat table
+eq-table w size s h [] [] = refl
+eq-table w size s h [] (y ∷ ys) =
+    eq-none (w y ++ flat w ys) (rw (length-append, h y) (omega arith))
+    ∙ sym (eq-none (enc 4 (length (y ∷ ys)) ++ (w y ++ flat w ys)) (rw (length-append, length-enc) (omega arith)))
+eq-table w size s h (x ∷ xs) [] =
+    none-eq (w x ++ flat w xs) (rw (length-append, h x) (omega arith))
+    ∙ sym (none-eq (enc 4 (length (x ∷ xs)) ++ (w x ++ flat w xs)) (rw (length-append, length-enc) (omega arith)))
+eq-table w size s h (x ∷ xs) (y ∷ ys) =
+    by-test (eqList (flat w (x ∷ xs)) (flat w (y ∷ ys))) refl
+    ∙ sym (eq-append (enc 4 (length (x ∷ xs))) (enc 4 (length (y ∷ ys))) (flat w (x ∷ xs)) (flat w (y ∷ ys)) (length-enc 4 (length (x ∷ xs)) ∙ sym (length-enc 4 (length (y ∷ ys)))))
+  where
+    by-test : (t : Bool) → eqList (flat w (x ∷ xs)) (flat w (y ∷ ys)) ≡ t
+        → eqList (flat w (x ∷ xs)) (flat w (y ∷ ys)) ≡ pick (eqList (enc 4 (length (x ∷ xs))) (enc 4 (length (y ∷ ys)))) (eqList (flat w (x ∷ xs)) (flat w (y ∷ ys))) false
+    by-test true e =
+        let l : size * length (x ∷ xs) ≡ size * length (y ∷ ys) =
+          sym (length-flat w size h (x ∷ xs)) ∙ ap (λ (l : List ℕ). length l) (eq-true (flat w (x ∷ xs)) (flat w (y ∷ ys)) e) ∙ length-flat w size h (y ∷ ys) in
+        rw (e, eq-of-mul-eq-mul-left size s (length (x ∷ xs)) (length (y ∷ ys)) l, eq-refl (enc 4 (length (y ∷ ys))))
+    by-test false e = rw e (sym (pick-same (eqList (enc 4 (length (x ∷ xs))) (enc 4 (length (y ∷ ys)))) false))

@@ -1,3 +1,4 @@
+use native.Mathlib.Omega.{arith}
 use borrow.Author.Needs.{needs}
 use Rattle.non_default_uvs.proofs.MappingLaws.{new-in, new-past}
 use Rattle.non_default_uvs.proofs.new_glyph.Statement.{statement}
@@ -15,7 +16,7 @@ shared-slice-read-result c = search needs
 
 -- src/lib.rt:29:9
 returns : tie.Need-returns
-returns c = search (needs, new-in)
+returns c = new-in _ _ (c .before .if1 .taken) (c .shared-slice-known .given (c .before .before .args .old) .fits)
 
 -- src/lib.rt:25:1
 returns-2 : tie.Need-returns-2
