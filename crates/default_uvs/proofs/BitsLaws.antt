@@ -12,6 +12,8 @@ use Rattle.laws.proofs.SearchLaws.{Looking, looking-start, looking-on, looking-
 use Rattle.uvs.specs.Default.{bitLength, inRanges}
 use Rattle.default_uvs.specs.Stream.{mostOf}
 use mathlib.Core.List.{List}
+use mathlib.Core.Bool.{Bool, true, false}
+use Rattle.laws.specs.Choice.{pick}
 use lib.ListN.{length}
 
 lt-power : (b : ℕ) → b < 2 ^ b
@@ -55,3 +57,11 @@ module _ (r b : ℕ) (ks : List ℕ) (e : b ≡ bitLength r) where
   pub most-single : r ≤ length ks * b → 0 ≡ mostOf r ks
   unfolding mostOf inRanges
   most-single h = rw (← e, le-ltb (length ks * b) r h)
+
+pub most-few : (r : ℕ) (ks : List ℕ) → mostOf r ks ≤ 255
+unfolding mostOf
+most-few r ks = few (inRanges r ks)
+  where
+    few : (t : Bool) → pick t 255 0 ≤ 255
+    few true = omega arith
+    few false = omega arith

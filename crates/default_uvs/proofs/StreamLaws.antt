@@ -138,7 +138,7 @@ module _ (most : ℕ) (ks fs : List ℕ) (i : ℕ) where
     }
 
     taken : begun most (getD ks i 0) a (points ks fs j) ≡ (getD ks i 0, a) ∷ records most ks fs j → Next most ks fs i a j
-    taken e = record { gives = sym (t .left) ∙ e; on = t .on; within = t .within; flag = t .flag }
+    taken e = record { gives = sym (t .left) ∙ e; few = t .few; on = t .on; within = t .within; flag = t .flag }
 
     pub taking-full : a ≡ most → Next most ks fs i a j
     taking-full e = taken (begun-full most (getD ks i 0) a (points ks fs j) (omega arith))

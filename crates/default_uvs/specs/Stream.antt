@@ -55,6 +55,7 @@ pub record Start (ks fs : List ℕ) (i : ℕ) : Type 0 where
 -- the record that begins at the flagged place i has `additional` points after its start; the next one begins at `next`
 pub record Next (most : ℕ) (ks fs : List ℕ) (i additional next : ℕ) : Type 0 where
   pub gives : records most ks fs i ≡ (getD ks i 0, additional) ∷ records most ks fs next
+  pub few : additional ≤ most
   pub on : i < next
   pub within : next ≤ length ks
   pub flag : next < length ks → getD fs next 0 ≡ 0 → ⊥

@@ -42,7 +42,7 @@ fn follows(start: u32, additional: u32, c: u32) -> bool
 }
 
 // The first flagged place from i on, or the number of points.
-fn next_point(kept: &[u32], flags: &[u8], i: usize) -> usize
+pub fn next_point(kept: &[u32], flags: &[u8], i: usize) -> usize
     requires { ⌜ (length (now kept) ≤ length (now flags)) × (i ≤ length (now kept)) ⌝ }
     ensures { λ r. ⌜ Point (now (kept .entry)) (now (flags .entry)) i r ⌝ }
 {
@@ -88,7 +88,7 @@ pub struct UnicodeRange {
 }
 
 // The record that starts at the flagged place i.
-fn next_range(kept: &[u32], flags: &[u8], i: usize, most: u32) -> UnicodeRange
+pub fn next_range(kept: &[u32], flags: &[u8], i: usize, most: u32) -> UnicodeRange
     requires { ⌜ Start (now kept) (now flags) i ⌝ }
     ensures { λ r. ⌜ Next most (now (kept .entry)) (now (flags .entry)) i (r .additional) (r .next) ⌝ }
 {
@@ -150,7 +150,7 @@ fn copy_ranges(out: &mut [u8], to: usize, kept: &[u32], flags: &[u8], most: u32)
 }
 
 // Flags the covered points, and tells how many may follow a record's start.
-fn prepare(flags: &mut [u8], s: &[u8], p: usize, kept: &[u32]) -> u32
+pub fn prepare(flags: &mut [u8], s: &[u8], p: usize, kept: &[u32]) -> u32
     requires { ⌜ Lent (now s) p (now kept) (now flags) ⌝ }
     ensures { λ most. ⌜ most ≡ mostOf (be 4 (now (s .entry)) p) (now (kept .entry)) ⌝ }
     ensures { λ _. ⌜ now (flags .exit) ≡ sets (now (flags .entry)) 0 (flagged (coveredBy (now (s .entry)) p) (now (kept .entry))) ⌝ }
