@@ -50,7 +50,7 @@ pub ruleset seeking = (seeking-start, seeking-on, seeking-found, seeking-none)
 -- ---- two mappings
 
 -- numbers that fit are equal exactly where their bytes are
-eq-enc : (w n m : ℕ) → n < 256 ^ w → m < 256 ^ w → eqb n m ≡ eqList (enc w n) (enc w m)
+pub eq-enc : (w n m : ℕ) → n < 256 ^ w → m < 256 ^ w → eqb n m ≡ eqList (enc w n) (enc w m)
 eq-enc w n m hn hm = by-test (eqb n m) refl
   where
     by-test : (t : Bool) → eqb n m ≡ t → eqb n m ≡ eqList (enc w n) (enc w m)
