@@ -2,3 +2,4 @@ pub mod BitsLaws
 pub mod CoverLaws
 pub mod StreamLaws
 pub mod NewLaws
+pub mod CoversLaws

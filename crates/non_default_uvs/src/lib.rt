@@ -82,9 +82,10 @@ fn copy_uvs_mapping(out: &mut [u8], to: usize, s: &[u8], place: usize, map: &[u1
     ensures { λ _. ⌜ now (out .exit) ≡ sets (now (out .entry)) to (mappingBytes (now (map .entry)) (mapping (now (s .entry)) place)) ⌝ }
 {
     let c = number::u24_at(s, place);
-    let g = new_glyph(map, number::u16_at(s, place + 3));
+    let old = number::u16_at(s, place + 3);
+    let new = new_glyph(map, old) as u32;
     number::put_u24(out, to, c);
-    number::put_u16(out, to + 3, g as u32);
+    number::put_u16(out, to + 3, new);
 }
 
 // Writes every mapping that stays, in the source's order.

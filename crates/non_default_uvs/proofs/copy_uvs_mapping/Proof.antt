@@ -11,21 +11,25 @@ use Rattle.number.proofs.put_u24.Reads as put-u24-reads
 use Rattle.number.proofs.u16_at.Reads as u16-at-reads
 use Rattle.number.proofs.u24_at.Reads as u24-at-reads
 
--- src/lib.rt:85:9
+-- src/lib.rt:84:9
 u24-at-requires : tie.Need-u24-at-requires
 u24-at-requires c κs = search needs
 
--- src/lib.rt:86:46
+-- src/lib.rt:85:33
 add-u16-at : tie.Need-add-u16-at
 add-u16-at c = search needs
 
--- src/lib.rt:86:28
+-- src/lib.rt:85:9
 u16-at-requires : tie.Need-u16-at-requires
 u16-at-requires c κs = search needs
 
--- src/lib.rt:86:9
+-- src/lib.rt:86:15
 new-glyph-requires : tie.Need-new-glyph-requires
 new-glyph-requires c κs = search needs
+
+-- src/lib.rt:86:15
+cast-new : tie.Need-cast-new
+cast-new c = search needs
 
 -- src/lib.rt:87:5
 put-u24-requires : tie.Need-put-u24-requires
@@ -35,19 +39,15 @@ put-u24-requires c κs = search needs
 add-put-u16 : tie.Need-add-put-u16
 add-put-u16 c = search needs
 
--- src/lib.rt:88:34
-cast-put-u16 : tie.Need-cast-put-u16
-cast-put-u16 c = search needs
-
 -- src/lib.rt:88:5
 put-u16-requires : tie.Need-put-u16-requires
 put-u16-requires c κs = search needs
 
--- src/lib.rt:81:1
+-- src/lib.rt:80:1
 same-length : tie.Need-same-length
 same-length c = search needs
 
--- src/lib.rt:81:1
+-- src/lib.rt:80:1
 returns : tie.Need-returns
 returns c = search copy-is
 
@@ -59,9 +59,9 @@ copy-uvs-mapping-spec =
     add-u16-at
     u16-at-requires
     new-glyph-requires
+    cast-new
     put-u24-requires
     add-put-u16
-    cast-put-u16
     put-u16-requires
     same-length
     returns)
