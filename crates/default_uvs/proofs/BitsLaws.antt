@@ -1,6 +1,6 @@
 -- The bit length of a number, found by doubling.
 use Prim.Native.Nat.{ℕ, zero, suc, _+_, _*_, _^_, _<_, _≤_}
-use mathlib.Core.Path.{_≡_, refl, sym, _∙_}
+use mathlib.Core.Path.{_≡_, refl}
 use mathlib.Core.Logic.{⊎-elim}
 use native.Mathlib.Nat.{pow-suc, mul-le-mul-right}
 use native.Mathlib.Numerals.{add-one}
@@ -40,9 +40,9 @@ module _ (r b power : ℕ) (d : Doubling r b power) where
   pub doubling-end : r < power → (b ≡ bitLength r) × (b ≤ r)
   unfolding bitLength
   doubling-end h = (
-      ⊎-elim (λ l. looking-found (d .looking) l (lt-ltb r (2 ^ b) (rw (d .is) at h))) (λ g. looking-none (d .looking) g) (lt-or-le b r),
-      d .looking .within,
-    )
+    ⊎-elim (λ l. looking-found (d .looking) l (lt-ltb r (2 ^ b) (rw (d .is) at h))) (λ g. looking-none (d .looking) g) (lt-or-le b r),
+    d .looking .within,
+  )
 
 -- ---- ranges or single points
 

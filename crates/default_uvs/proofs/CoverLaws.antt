@@ -1,10 +1,10 @@
 -- Which flags stand after every range has marked its points: those of the points that some range covers.
-use Prim.Native.Nat.{ℕ, zero, suc, _+_, _-_, _*_, _<_, _≤_}
-use mathlib.Core.Path.{_≡_, refl, sym, ap, _∙_}
+use Prim.Native.Nat.{ℕ, _+_, _-_, _*_, _<_, _≤_}
+use mathlib.Core.Path.{_≡_, refl, ap, _∙_}
 use mathlib.Core.List.{List, [], _∷_}
 use mathlib.Core.Bool.{Bool, true, false}
 use native.Mathlib.Omega.{arith}
-use lib.ListN.{length, getD, replicate}
+use lib.ListN.{length, replicate}
 use lib.Seq.{sets}
 use Rattle.laws.specs.Choice.{pick, either}
 use Rattle.laws.specs.Lists.{Pair, keep}
@@ -12,7 +12,7 @@ use Rattle.laws.specs.Select.{each, anyOf, select}
 use Rattle.laws.proofs.SelectLaws.{each-on, each-end, each-all}
 use Rattle.marks.specs.Marks.{between, flagged, marked, kept}
 use Rattle.marks.proofs.MarksLaws.{painted-flagged, flagged-ext, flagged-none, kept-sets}
-use Rattle.number.specs.BigEndian.{be, Num, Byte}
+use Rattle.number.specs.BigEndian.{Num, Byte}
 use Rattle.uvs.specs.Default.{range, rangeAt, ranges, covers, coveredBy, coveredPoints}
 
 -- one range

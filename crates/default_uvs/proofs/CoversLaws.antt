@@ -1,14 +1,13 @@
 -- No point is lost and none is won: the new default table covers a code point exactly where it is kept and the source's table covers it.
-use Prim.Native.Nat.{ℕ, zero, suc, _+_, _<_, _≤_}
-use mathlib.Core.Path.{_≡_, refl, sym, ap, _∙_}
+use Prim.Native.Nat.{ℕ, zero, suc, _+_, _≤_}
+use mathlib.Core.Path.{_≡_, refl, _∙_}
 use mathlib.Core.List.{List, [], _∷_}
 use mathlib.Core.Bool.{Bool, true, false}
 use native.Mathlib.Nat.{add-zero}
 use native.Mathlib.Omega.{arith}
 use borrow.Author.Tests.{eq-eqb, ne-eqb, eqb-true, le-leb, lt-leb, le-ltb}
-use lib.Dec.{eqb, ltb, leb}
+use lib.Dec.{eqb, ltb}
 use Rattle.laws.specs.Choice.{pick, both, either}
-use Rattle.laws.specs.Lists.{Pair}
 use Rattle.laws.specs.Select.{select, anyOf}
 use Rattle.laws.proofs.ChoiceLaws.{by-leb}
 use Rattle.marks.specs.Marks.{between, holds}
@@ -34,8 +33,8 @@ module _ (c : ℕ) where
   between-one p =
       rw (add-zero p) (by-leb (between p p c ≡ eqb p c) p c
       (λ h. by-leb (between p p c ≡ eqb p c) c p
-        (λ k. rw (le-leb p c h, le-leb c p k, eq-eqb p c (omega arith)))
-        (λ k. rw (le-leb p c h, lt-leb c p k, ne-eqb p c (λ e. omega arith))))
+      (λ k. rw (le-leb p c h, le-leb c p k, eq-eqb p c (omega arith)))
+      (λ k. rw (le-leb p c h, lt-leb c p k, ne-eqb p c (λ e. omega arith))))
       (λ h. rw (lt-leb p c h, ne-eqb p c (λ e. omega arith))))
 
   -- a stretch grows by the point behind it
@@ -43,10 +42,10 @@ module _ (c : ℕ) where
   between-more p a q e =
       by-leb (between p (p + (a + 1)) c ≡ either (between p (p + a) c) (eqb q c)) p c
       (λ h. by-leb (between p (p + (a + 1)) c ≡ either (between p (p + a) c) (eqb q c)) c (p + a)
-        (λ k. rw (le-leb p c h, le-leb c (p + a) k, le-leb c (p + (a + 1)) (omega arith)))
-        (λ k. by-leb (between p (p + (a + 1)) c ≡ either (between p (p + a) c) (eqb q c)) c q
-          (λ l. rw (le-leb p c h, lt-leb c (p + a) k, le-leb c (p + (a + 1)) (omega arith), eq-eqb q c (omega arith)))
-          (λ l. rw (le-leb p c h, lt-leb c (p + a) k, lt-leb c (p + (a + 1)) (omega arith), ne-eqb q c (λ d. omega arith)))))
+      (λ k. rw (le-leb p c h, le-leb c (p + a) k, le-leb c (p + (a + 1)) (omega arith)))
+      (λ k. by-leb (between p (p + (a + 1)) c ≡ either (between p (p + a) c) (eqb q c)) c q
+      (λ l. rw (le-leb p c h, lt-leb c (p + a) k, le-leb c (p + (a + 1)) (omega arith), eq-eqb q c (omega arith)))
+      (λ l. rw (le-leb p c h, lt-leb c (p + a) k, lt-leb c (p + (a + 1)) (omega arith), ne-eqb q c (λ d. omega arith)))))
       (λ h. rw (lt-leb p c h, ne-eqb q c (λ d. omega arith)))
 
   -- a record that is begun, and the points ahead
@@ -59,12 +58,13 @@ module _ (c : ℕ) where
           → begun most start a (q ∷ ps) ≡ (start, a) ∷ longest most 0 (q ∷ ps)
           → anyOf (covers c) (begun most start a (q ∷ ps)) ≡ either (between start (start + a) c) (either (eqb q c) (holds ps c))
       onward ih e = rw (e, begun-start most q ps, ih q 0, between-one q)
+
       by-test : ((s b : ℕ) → anyOf (covers c) (begun most s b ps) ≡ either (between s (s + b) c) (holds ps c))
           → (t : Bool) → eqb q (start + a + 1) ≡ t → anyOf (covers c) (begun most start a (q ∷ ps)) ≡ either (between start (start + a) c) (either (eqb q c) (holds ps c))
       by-test ih false e = onward ih (begun-gap most start a q ps e)
       by-test ih true e = by-leb (anyOf (covers c) (begun most start a (q ∷ ps)) ≡ either (between start (start + a) c) (either (eqb q c) (holds ps c))) most a
-        (λ h. onward ih (begun-full most start a (q ∷ ps) h))
-        (λ h. rw (begun-on most start a q ps h e, ih start (a + 1), between-more start a q (eqb-true q (start + a + 1) e), either-assoc (between start (start + a) c) (eqb q c) (holds ps c)))
+          (λ h. onward ih (begun-full most start a (q ∷ ps) h))
+          (λ h. rw (begun-on most start a q ps h e, ih start (a + 1), between-more start a q (eqb-true q (start + a + 1) e), either-assoc (between start (start + a) c) (eqb q c) (holds ps c)))
 
   pub longest-covers : (most : ℕ) (ps : List ℕ) → anyOf (covers c) (longest most 0 ps) ≡ holds ps c
   unfolding anyOf holds

@@ -1,5 +1,5 @@
 -- The flagged points from a place on, and the records made of them, one after the other.
-use Prim.Native.Nat.{ℕ, zero, suc, _+_, _-_, _*_, _%_, _<_, _≤_}
+use Prim.Native.Nat.{ℕ, zero, suc, _+_, _-_, _%_, _<_, _≤_}
 use mathlib.Core.Path.{_≡_, refl, sym, ap, _∙_}
 use mathlib.Core.List.{List, [], _∷_}
 use mathlib.Core.Bool.{Bool, true, false}
@@ -10,7 +10,6 @@ use borrow.Author.Tests.{eq-eqb, ne-eqb, eqb-true}
 use lib.Dec.{eqb}
 use lib.ListN.{length, getD, drop, drop-of-length-le, length-append, set}
 use lib.Seq.{sets, length-sets, drop-cons}
-use Rattle.laws.specs.Choice.{pick}
 use Rattle.laws.specs.Lists.{Pair}
 use Rattle.laws.specs.Select.{flat}
 use Rattle.laws.proofs.SetsLaws.{sets-append, sets-snoc}
@@ -133,8 +132,8 @@ module _ (most : ℕ) (ks fs : List ℕ) (i : ℕ) where
       within = p .within;
       flag = p .flag;
       left =
-        rw (← p .same) (sym (begun-on most (getD ks i 0) a (getD ks j 0) (points ks fs (j + 1)) (omega (arith, t .few)) (sym e ∙ y))
-        ∙ ap (λ (l : List ℕ). begun most (getD ks i 0) a l) (sym (points-yes ks fs j h (s .beside) (t .flag h))) ∙ t .left);
+          rw (← p .same) (sym (begun-on most (getD ks i 0) a (getD ks j 0) (points ks fs (j + 1)) (omega (arith, t .few)) (sym e ∙ y))
+          ∙ ap (λ (l : List ℕ). begun most (getD ks i 0) a l) (sym (points-yes ks fs j h (s .beside) (t .flag h))) ∙ t .left);
     }
 
     taken : begun most (getD ks i 0) a (points ks fs j) ≡ (getD ks i 0, a) ∷ records most ks fs j → Next most ks fs i a j
@@ -233,8 +232,8 @@ module _ (most : ℕ) (ks fs out₀ : List ℕ) (to : ℕ) where
           same = rw (e, length-sets) (l .same);
           room = rw (e, length-sets) (omega (arith, r));
           left =
-            rw (e, ← range-size (getD ks i 0, a), sets-append out place (rangeBytes (getD ks i 0, a)) (flat rangeBytes (records most ks fs j)))
-            (rw (n .gives) at (l .left));
+              rw (e, ← range-size (getD ks i 0, a), sets-append out place (rangeBytes (getD ks i 0, a)) (flat rangeBytes (records most ks fs j)))
+              (rw (n .gives) at (l .left));
         }
 
     pub written-end : length ks ≤ i → out ≡ sets out₀ to (flat rangeBytes (records most ks fs 0))

@@ -1,7 +1,7 @@
 // The new default table of a selector record: how long it is, and its bytes.
 ghost use mathlib.Core.Path.{_≡_};
 ghost use Prim.Native.Nat.{_+_, _*_, _<_, _≤_};
-ghost use lib.ListN.{length, getD};
+ghost use lib.ListN.{length};
 ghost use lib.Seq.{sets};
 ghost use lib.Dec.{eqb};
 ghost use Rattle.laws.specs.Select.{flat};
@@ -97,16 +97,25 @@ pub fn next_range(kept: &[u32], flags: &[u8], i: usize, most: u32) -> UnicodeRan
     let mut next = next_point(kept, flags, i + 1);
     while next < kept.len() {
         if additional == most {
-            return UnicodeRange { additional: additional, next: next };
+            return UnicodeRange {
+                additional: additional,
+                next: next,
+            };
         }
         if follows(start, additional, kept[next]) {
             additional += 1;
             next = next_point(kept, flags, next + 1);
         } else {
-            return UnicodeRange { additional: additional, next: next };
+            return UnicodeRange {
+                additional: additional,
+                next: next,
+            };
         }
     }
-    UnicodeRange { additional: additional, next: next }
+    UnicodeRange {
+        additional: additional,
+        next: next,
+    }
 }
 
 // How many records the new table has.

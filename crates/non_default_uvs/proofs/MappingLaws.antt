@@ -1,10 +1,10 @@
 -- Which mappings stay, which glyph a map gives, and which it misses: the code's answers are the definitions'.
-use Prim.Native.Nat.{ℕ, zero, suc, _+_, _*_, _^_, _<_, _≤_}
-use mathlib.Core.Path.{_≡_, refl, sym, ap, _∙_}
-use mathlib.Core.List.{List, [], _∷_}
+use Prim.Native.Nat.{ℕ, _+_, _*_, _^_, _<_, _≤_}
+use mathlib.Core.Path.{_≡_, sym, _∙_}
+use mathlib.Core.List.{List}
 use mathlib.Core.Bool.{Bool, true, false}
 use native.Mathlib.Omega.{arith}
-use borrow.Author.Tests.{lt-leb, le-leb, eq-eqb}
+use borrow.Author.Tests.{lt-leb, le-leb}
 use lib.ListN.{length, getD, length-append, List·getD-eq-default}
 use lib.Dec.{eqb}
 use lib.Seq.{sets}
@@ -48,8 +48,8 @@ new-past map g h = record { is = sym (List·getD-eq-default map absent h); below
 pub missing-absent : (map : List ℕ) (g : ℕ) → missing map g ≡ eqb (getD map g absent) absent
 unfolding missing
 missing-absent map g = by-leb (missing map g ≡ eqb (getD map g absent) absent) (length map) g
-  (λ h. rw (le-leb (length map) g h, List·getD-eq-default map absent h))
-  (λ h. rw (lt-leb (length map) g h))
+    (λ h. rw (le-leb (length map) g h, List·getD-eq-default map absent h))
+    (λ h. rw (lt-leb (length map) g h))
 
 -- ---- one mapping
 

@@ -1,14 +1,13 @@
 -- The mappings that stay, found one after the other, and two of them compared by their bytes.
-use Prim.Native.Nat.{ℕ, suc, _+_, _-_, _*_, _^_, _<_, _≤_}
+use Prim.Native.Nat.{ℕ, _+_, _*_, _^_, _<_, _≤_}
 use mathlib.Core.Path.{_≡_, refl, sym, ap, _∙_}
-use mathlib.Core.List.{List, [], _∷_, _++_}
+use mathlib.Core.List.{List, [], _∷_}
 use mathlib.Core.Bool.{Bool, true, false}
 use native.Mathlib.Omega.{arith}
 use borrow.Author.Tests.{eq-eqb, ne-eqb, eqb-true, le-leb, lt-leb}
 use lib.Dec.{eqb, leb}
-use lib.ListN.{length, getD}
+use lib.ListN.{getD}
 use Rattle.laws.specs.Choice.{pick}
-use Rattle.laws.specs.Lists.{Pair}
 use Rattle.laws.specs.Select.{eqList}
 use Rattle.laws.proofs.ChoiceLaws.{not-true, false-true, by-leb}
 use Rattle.laws.proofs.EqListLaws.{eq-refl, eq-true, eq-append}
@@ -111,9 +110,9 @@ module _ (xs kept map requested : List ℕ) (p m q n : ℕ) where
         first = standing xs kept requested p m (i + 1) u a;
         second = standing xs kept requested q n (j + 1) v c;
         left =
-          rw (← a .same, ← c .same)
-          (compare-on (mappingBytes map) 5 (omega arith) (mapping-size map) (l .left) (mappingAt xs p i) (mappingAt xs q j) (staying xs p m kept requested (i + 1)) (staying xs q n kept requested (j + 1))
-          (here xs kept requested p m i (l .first) h) (here xs kept requested q n j (l .second) k) (sym e ∙ t));
+            rw (← a .same, ← c .same)
+            (compare-on (mappingBytes map) 5 (omega arith) (mapping-size map) (l .left) (mappingAt xs p i) (mappingAt xs q j) (staying xs p m kept requested (i + 1)) (staying xs q n kept requested (j + 1))
+            (here xs kept requested p m i (l .first) h) (here xs kept requested q n j (l .second) k) (sym e ∙ t));
       }
 
       pub pairing-off : b ≡ false → false ≡ sameRows xs kept map requested p m q n
@@ -129,8 +128,8 @@ module _ (xs kept map requested : List ℕ) (p m q n : ℕ) where
     -- the first table is through: the second must be too
     pub pairing-end : m ≤ i → leb n j ≡ sameRows xs kept map requested p m q n
     pairing-end h = by-leb (leb n j ≡ sameRows xs kept map requested p m q n) n j
-      (λ k. le-leb n j k ∙ compare-end (mappingBytes map) 5 (omega arith) (mapping-size map) (l .left) (none xs kept requested p m i h) (none xs kept requested q n j k))
-      (λ k. lt-leb n j k ∙ compare-long (mappingBytes map) 5 (omega arith) (mapping-size map) (l .left) (mappingAt xs q j) (staying xs q n kept requested (j + 1)) (none xs kept requested p m i h) (here xs kept requested q n j (l .second) k))
+        (λ k. le-leb n j k ∙ compare-end (mappingBytes map) 5 (omega arith) (mapping-size map) (l .left) (none xs kept requested p m i h) (none xs kept requested q n j k))
+        (λ k. lt-leb n j k ∙ compare-long (mappingBytes map) 5 (omega arith) (mapping-size map) (l .left) (mappingAt xs q j) (staying xs q n kept requested (j + 1)) (none xs kept requested p m i h) (here xs kept requested q n j (l .second) k))
 
 pub ruleset pairing = (pairing-start, pairing-on, pairing-off, pairing-short, pairing-end)
 

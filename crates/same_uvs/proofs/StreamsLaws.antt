@@ -1,7 +1,7 @@
 -- Two default tables compared record by record.
-use Prim.Native.Nat.{ℕ, suc, _+_, _<_, _≤_}
-use mathlib.Core.Path.{_≡_, refl, sym, ap, _∙_}
-use mathlib.Core.List.{List, [], _∷_}
+use Prim.Native.Nat.{ℕ, _+_, _<_, _≤_}
+use mathlib.Core.Path.{_≡_, sym, _∙_}
+use mathlib.Core.List.{List, _∷_}
 use mathlib.Core.Bool.{Bool, true, false}
 use native.Mathlib.Omega.{arith}
 use borrow.Author.Tests.{eq-eqb, ne-eqb, le-leb, lt-leb}
@@ -18,7 +18,7 @@ use Rattle.number.specs.BigEndian.{be, enc}
 use Rattle.number.proofs.BigEndianLaws.{length-enc}
 use Rattle.uvs.specs.Default.{coveredBy, follow, longest, rangeBytes, newRecords, newDefault}
 use Rattle.uvs.proofs.TablesLaws.{eq-table}
-use Rattle.default_uvs.specs.Stream.{Lent, Beside, Point, Start, Next, points, records, mostOf}
+use Rattle.default_uvs.specs.Stream.{Lent, Point, Start, Next, points, records, mostOf}
 use Rattle.default_uvs.proofs.BitsLaws.{most-few}
 use Rattle.default_uvs.proofs.NewLaws.{records-new}
 use Rattle.default_uvs.proofs.StreamLaws.{Standing, standing-start, standing-on, start-here, records-end, range-size, points-yes}
@@ -87,8 +87,8 @@ module _ (ks fs : List ℕ) (most : ℕ) (gs : List ℕ) (limit : ℕ) where
     -- the first is through: the second must be too
     pub pairing-end : length ks ≤ i → Flagging ks gs limit → leb (length ks) j ≡ sameRanges ks fs most gs limit
     pairing-end h f = by-leb (leb (length ks) j ≡ sameRanges ks fs most gs limit) (length ks) j
-      (λ k. le-leb (length ks) j k ∙ compare-end rangeBytes 4 (omega arith) range-size (l .left) (records-end most ks fs i h) (records-end limit ks gs j k))
-      (λ k. lt-leb (length ks) j k ∙ compare-long rangeBytes 4 (omega arith) range-size (l .left) (head limit ks gs j) (rest limit ks gs j) (records-end most ks fs i h) (records-some limit ks gs j (pairing-second k f)))
+        (λ k. le-leb (length ks) j k ∙ compare-end rangeBytes 4 (omega arith) range-size (l .left) (records-end most ks fs i h) (records-end limit ks gs j k))
+        (λ k. lt-leb (length ks) j k ∙ compare-long rangeBytes 4 (omega arith) range-size (l .left) (head limit ks gs j) (rest limit ks gs j) (records-end most ks fs i h) (records-some limit ks gs j (pairing-second k f)))
 
     module _ (t : Bool) (a u b v : ℕ) (n : Next most ks fs i a u) (o : Next limit ks gs j b v) (e : t ≡ eqList (rangeBytes (getD ks i 0, a)) (rangeBytes (getD ks j 0, b))) where
       pub pairing-on : t ≡ true → Pairing ks fs most gs limit u v

@@ -1,8 +1,8 @@
 -- The records of two default tables, taken one by one from the same points and two flaggings of them.
-use Prim.Native.Nat.{ℕ, _<_, _≤_}
+use Prim.Native.Nat.{ℕ, _≤_}
 use mathlib.Core.Bool.{Bool}
 use mathlib.Core.List.{List}
-use lib.ListN.{length, getD}
+use lib.ListN.{getD}
 use Rattle.laws.specs.Select.{flat, eqList}
 use Rattle.number.specs.Limits.{unicodeMax}
 use Rattle.uvs.specs.Default.{rangeBytes}

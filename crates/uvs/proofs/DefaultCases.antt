@@ -1,8 +1,7 @@
 -- C9 and its neighbours, computed from the definitions of the default table.
 use mathlib.Core.Path.{_≡_, refl}
-use mathlib.Core.List.{List, [], _∷_}
+use mathlib.Core.List.{[], _∷_}
 use mathlib.Core.Bool.{true, false}
-use Rattle.laws.specs.Lists.{Pair}
 use Rattle.laws.specs.Search.{first}
 use Rattle.laws.specs.Select.{each, select, anyOf}
 use Rattle.number.specs.BigEndian.{be}

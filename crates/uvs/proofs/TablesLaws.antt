@@ -1,5 +1,5 @@
 -- When a table counts, read off the tests of the code; how long a new table is.
-use Prim.Native.Nat.{ℕ, suc, _+_, _*_, _^_, _<_, _≤_}
+use Prim.Native.Nat.{ℕ, _+_, _*_, _^_, _<_, _≤_}
 use mathlib.Core.Path.{_≡_, refl, sym, ap, _∙_}
 use mathlib.Core.List.{List, [], _∷_, _++_}
 use mathlib.Core.Bool.{Bool, true, false}
@@ -117,6 +117,6 @@ eq-table w size s h (x ∷ xs) (y ∷ ys) =
         → eqList (flat w (x ∷ xs)) (flat w (y ∷ ys)) ≡ pick (eqList (enc 4 (length (x ∷ xs))) (enc 4 (length (y ∷ ys)))) (eqList (flat w (x ∷ xs)) (flat w (y ∷ ys))) false
     by-test true e =
         let l : size * length (x ∷ xs) ≡ size * length (y ∷ ys) =
-          sym (length-flat w size h (x ∷ xs)) ∙ ap (λ (l : List ℕ). length l) (eq-true (flat w (x ∷ xs)) (flat w (y ∷ ys)) e) ∙ length-flat w size h (y ∷ ys) in
+        sym (length-flat w size h (x ∷ xs)) ∙ ap (λ (l : List ℕ). length l) (eq-true (flat w (x ∷ xs)) (flat w (y ∷ ys)) e) ∙ length-flat w size h (y ∷ ys) in
         rw (e, eq-of-mul-eq-mul-left size s (length (x ∷ xs)) (length (y ∷ ys)) l, eq-refl (enc 4 (length (y ∷ ys))))
     by-test false e = rw e (sym (pick-same (eqList (enc 4 (length (x ∷ xs))) (enc 4 (length (y ∷ ys)))) false))

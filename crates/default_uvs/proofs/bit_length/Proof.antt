@@ -1,3 +1,4 @@
+-- The power is 2^b, and no smaller one exceeds r.
 use borrow.Author.Needs.{needs}
 use native.Mathlib.Omega.{arith}
 use Prim.Native.Nat.{_-_}

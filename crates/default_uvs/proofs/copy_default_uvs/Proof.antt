@@ -1,3 +1,4 @@
+-- The count, then the records right behind it; with none counted nothing is written.
 use native.Mathlib.Omega.{arith}
 use Rattle.default_uvs.proofs.NewLaws.{new-rules, copy-head, copy-room}
 use borrow.Author.Needs.{needs}

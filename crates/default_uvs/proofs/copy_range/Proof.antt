@@ -1,3 +1,4 @@
+-- The byte of the points behind is written right behind the start.
 use native.Mathlib.Omega.{arith}
 use Rattle.default_uvs.proofs.StreamLaws.{range-is}
 use borrow.Author.Needs.{needs}

@@ -1,3 +1,4 @@
+-- What is left, written behind what is written, gives the whole.
 use borrow.Author.Needs.{needs}
 use native.Mathlib.Omega.{arith}
 use lib.ListN.{length}

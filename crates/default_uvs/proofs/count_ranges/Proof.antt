@@ -1,3 +1,4 @@
+-- Records counted and records still to come are as many as there are.
 use borrow.Author.Needs.{needs}
 use native.Mathlib.Omega.{arith}
 use lib.ListN.{length}

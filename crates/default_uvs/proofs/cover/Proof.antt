@@ -1,3 +1,4 @@
+-- Marking the ranges still to come gives what marking all of them gives, and that flags every covered point.
 use borrow.Author.Needs.{needs}
 use native.Mathlib.Omega.{arith}
 use Prim.Native.Nat.{_-_}

@@ -1,3 +1,4 @@
+-- The records taken from the flags are the new table's.
 use native.Mathlib.Omega.{arith}
 use Rattle.default_uvs.proofs.NewLaws.{new-rules, copy-head, copy-room}
 use borrow.Author.Needs.{needs}

@@ -1,3 +1,4 @@
+-- The stretch from the start to as many points behind it as the byte says.
 use native.Mathlib.Omega.{arith}
 use Rattle.default_uvs.proofs.CoverLaws.{mark-is}
 use borrow.Author.Needs.{needs}

@@ -1,3 +1,4 @@
+-- The code's test is the definition's; the product fits since the points are few.
 use native.Mathlib.Omega.{arith}
 use Rattle.default_uvs.proofs.BitsLaws.{product-small, most-ranges, most-single}
 use borrow.Author.Needs.{needs}

@@ -1,3 +1,4 @@
+-- Points without a flag do not count, so passing them by changes nothing.
 use borrow.Author.Needs.{needs}
 use native.Mathlib.Omega.{arith}
 use lib.ListN.{length}

@@ -1,3 +1,4 @@
+-- A point that follows the last makes the record longer; a gap, the limit or the end closes it.
 use borrow.Author.Needs.{needs}
 use native.Mathlib.Omega.{arith}
 use lib.ListN.{length}

@@ -1,3 +1,4 @@
+-- The two parts are the callees' own.
 use native.Mathlib.Omega.{arith}
 use borrow.Author.Needs.{needs}
 use Rattle.default_uvs.proofs.prepare.Statement.{statement}

@@ -1,47 +1,34 @@
-use native.Mathlib.Omega.{arith}
+-- The count, then the mappings right behind it; with none counted nothing is written.
 use Rattle.uvs.proofs.TablesLaws.{writes, write-head, write-room}
 use Rattle.uvs.specs.NonDefault.{newNonDefault}
 use borrow.Author.Needs.{needs}
 use Rattle.non_default_uvs.proofs.copy_non_default_uvs.Statement.{statement}
 use Rattle.non_default_uvs.proofs.copy_non_default_uvs.Tie as tie
-use Rattle.non_default_uvs.proofs.copy_non_default_uvs.Reads as reads
-use Rattle.non_default_uvs.proofs.copy_non_default_uvs.Lts as lts
-use Rattle.non_default_uvs.proofs.copy_mappings.Reads as copy-mappings-reads
-use Rattle.non_default_uvs.proofs.count_mappings.Reads as count-mappings-reads
-use Rattle.number.proofs.put_u32.Reads as put-u32-reads
 
--- src/lib.rt:145:9
 count-mappings-requires : tie.Need-count-mappings-requires
 count-mappings-requires c κs = search needs
 
--- src/lib.rt:147:9
 returns : tie.Need-returns
 unfolding newNonDefault
 returns c = search writes
 
--- src/lib.rt:149:30
 cast-put-u32 : tie.Need-cast-put-u32
 cast-put-u32 c = search needs
 
--- src/lib.rt:149:5
 put-u32-requires : tie.Need-put-u32-requires
 unfolding newNonDefault
 put-u32-requires c κs = search write-head
 
--- src/lib.rt:150:24
 add-copy-mappings : tie.Need-add-copy-mappings
 add-copy-mappings c = search needs
 
--- src/lib.rt:150:5
 copy-mappings-requires : tie.Need-copy-mappings-requires
 unfolding newNonDefault
 copy-mappings-requires c κs = (search needs, write-room _ _ _ (c .before .before .before .before .before .before .count-mappings .ensures .is) _ _ _ (c .before .before .before .put-u32 .ensures) (c .before .before .before .before .before .before .before .before .before .before .before .before .pre .1) (c .before .before .before .before .before .if1 .left))
 
--- src/lib.rt:132:1
 same-length : tie.Need-same-length
 same-length c = search needs
 
--- src/lib.rt:132:1
 returns-2 : tie.Need-returns-2
 unfolding newNonDefault
 returns-2 c = search writes

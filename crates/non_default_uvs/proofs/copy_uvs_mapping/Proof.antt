@@ -1,3 +1,4 @@
+-- The glyph is written right behind the code point.
 use native.Mathlib.Omega.{arith}
 use Rattle.non_default_uvs.proofs.MappingLaws.{copy-is}
 use borrow.Author.Needs.{needs}

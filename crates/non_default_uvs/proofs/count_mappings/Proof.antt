@@ -1,3 +1,4 @@
+-- Those counted and those still to be counted are as many as stay.
 use Rattle.non_default_uvs.proofs.MappingLaws.{count-all}
 use borrow.Author.Needs.{needs}
 use native.Mathlib.Omega.{arith}

@@ -1,3 +1,4 @@
+-- Halving answers as the lists hold, and the two answers are joined as the definition joins them.
 use borrow.Author.Needs.{needs}
 use Rattle.non_default_uvs.proofs.MappingLaws.{keeps-rules}
 use Rattle.non_default_uvs.proofs.keeps_mapping.Statement.{statement}

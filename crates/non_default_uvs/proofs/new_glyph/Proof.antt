@@ -1,24 +1,18 @@
-use native.Mathlib.Omega.{arith}
+-- Inside the map its entry is read; past its end the glyph is absent.
 use borrow.Author.Needs.{needs}
 use Rattle.non_default_uvs.proofs.MappingLaws.{new-in, new-past}
 use Rattle.non_default_uvs.proofs.new_glyph.Statement.{statement}
 use Rattle.non_default_uvs.proofs.new_glyph.Tie as tie
-use Rattle.non_default_uvs.proofs.new_glyph.Reads as reads
-use Rattle.non_default_uvs.proofs.new_glyph.Lts as lts
 
--- src/lib.rt:29:16
 mul-result : tie.Need-mul-result
 mul-result c = search needs
 
--- src/lib.rt:29:16
 shared-slice-read-result : tie.Need-shared-slice-read-result
 shared-slice-read-result c = search needs
 
--- src/lib.rt:29:9
 returns : tie.Need-returns
 returns c = new-in _ _ (c .before .if1 .taken) (c .shared-slice-known .given (c .before .before .args .old) .fits)
 
--- src/lib.rt:25:1
 returns-2 : tie.Need-returns-2
 returns-2 c = search (needs, new-past)
 

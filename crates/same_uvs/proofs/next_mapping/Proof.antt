@@ -1,3 +1,4 @@
+-- Mappings that do not stay may be passed by.
 use borrow.Author.Needs.{needs}
 use native.Mathlib.Omega.{arith}
 use Prim.Native.Nat.{_-_}

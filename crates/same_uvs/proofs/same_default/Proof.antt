@@ -1,3 +1,4 @@
+-- Tables are equal exactly where their records are, and the flags give those.
 use native.Mathlib.Omega.{arith}
 use Rattle.same_uvs.proofs.StreamsLaws.{flagging-of, same-new}
 use borrow.Author.Needs.{needs}

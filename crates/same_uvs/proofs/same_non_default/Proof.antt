@@ -1,3 +1,4 @@
+-- Tables are equal exactly where their records are.
 use native.Mathlib.Omega.{arith}
 use Rattle.same_uvs.proofs.RowLaws.{row-of, same-new}
 use borrow.Author.Needs.{needs}

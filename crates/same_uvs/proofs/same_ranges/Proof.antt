@@ -1,3 +1,4 @@
+-- While the records are equal, what is left tells what the whole tells.
 use borrow.Author.Needs.{needs}
 use native.Mathlib.Omega.{arith}
 use lib.ListN.{length}

@@ -1,3 +1,4 @@
+-- Each test of the code is one of the definition's, in the same order; the product fits since four bytes tell the count.
 use borrow.Author.Needs.{needs}
 use native.Mathlib.Omega.{arith}
 use Rattle.uvs.proofs.TablesLaws.{counts-rules, product-below}
