@@ -41,7 +41,12 @@ add-copy-ranges c = search needs
 
 -- src/lib.rt:196:5
 copy-ranges-requires : tie.Need-copy-ranges-requires
-copy-ranges-requires c κs = (search needs, copy-room _ _ _ _ _ _ (c .before .before .before .before .before .before .before .before .before .before .before .before .before .before .before .before .before .pre .0) (c .before .before .before .before .before .before .before .before .before .before .before .prepare .ensures .0) (c .before .before .before .before .before .before .before .before .before .before .before .prepare .ensures .1) _ (c .before .before .before .before .before .before .before .count-ranges .ensures) _ _ _ (c .before .before .before .before .put-u32 .ensures) (c .before .before .before .before .before .before .before .before .before .before .before .before .before .before .before .before .before .pre .1) (c .before .before .before .before .before .before .if1 .left))
+copy-ranges-requires c κs =
+    let made = c .before .before .before .before .before .before .before .before .before .before .before .prepare .ensures in
+    let pre = c .before .before .before .before .before .before .before .before .before .before .before .before .before .before .before .before .before .pre in (
+      search needs,
+      copy-room _ _ _ _ _ _ (pre .0) (made .0) (made .1) _ (c .before .before .before .before .before .before .before .count-ranges .ensures) _ _ _ (c .before .before .before .before .put-u32 .ensures) (pre .1) (c .before .before .before .before .before .before .if1 .left),
+    )
 
 -- src/lib.rt:177:1
 same-length-2 : tie.Need-same-length-2

@@ -19,7 +19,13 @@ prepare-requires-2 c κs = search needs
 
 -- src/lib.rt:147:5
 same-ranges-requires : tie.Need-same-ranges-requires
-same-ranges-requires c κs = (flagging-of _ _ (c .before .before .before .before .before .before .before .before .before .before .before .before .before .before .pre .1 .1) _ _ _ _ (c .before .before .before .before .before .before .before .before .before .before .before .before .before .before .pre .0) (c .before .before .before .before .before .before .before .before .prepare .ensures .1) (c .before .before .before .before .before .before .before .before .prepare .ensures .0), flagging-of _ _ (c .before .before .before .before .before .before .before .before .before .before .before .before .before .before .pre .1 .1) _ _ _ _ (c .before .before .before .before .before .before .before .before .before .before .before .before .before .before .pre .1 .0) (c .before .before .before .before .prepare2 .ensures .1) (c .before .before .before .before .prepare2 .ensures .0))
+same-ranges-requires c κs =
+    let first = c .before .before .before .before .before .before .before .before .prepare .ensures in
+    let second = c .before .before .before .before .prepare2 .ensures in
+    let pre = c .before .before .before .before .before .before .before .before .before .before .before .before .before .before .pre in (
+      flagging-of _ _ (pre .1 .1) _ _ _ _ (pre .0) (first .1) (first .0),
+      flagging-of _ _ (pre .1 .1) _ _ _ _ (pre .1 .0) (second .1) (second .0),
+    )
 
 -- src/lib.rt:130:1
 same-length : tie.Need-same-length
@@ -31,7 +37,13 @@ same-length-2 c = search needs
 
 -- src/lib.rt:130:1
 returns : tie.Need-returns
-returns c = (same-new _ _ _ _ _ _ _ _ _ _ _ (c .before .before .before .before .before .before .before .before .before .before .before .before .before .before .before .pre .0) (c .before .before .before .before .before .before .before .before .before .prepare .ensures .0) (c .before .before .before .before .before .before .before .before .before .prepare .ensures .1) (c .before .before .before .before .before .before .before .before .before .before .before .before .before .before .before .pre .1 .0) (c .before .before .before .before .before .prepare2 .ensures .0) (c .before .before .before .before .before .prepare2 .ensures .1) (c .same-ranges .ensures), (c .before .before .before .before .before .before .before .before .before .prepare .ensures .1, c .before .before .before .before .before .prepare2 .ensures .1))
+returns c =
+    let first = c .before .before .before .before .before .before .before .before .before .prepare .ensures in
+    let second = c .before .before .before .before .before .prepare2 .ensures in
+    let pre = c .before .before .before .before .before .before .before .before .before .before .before .before .before .before .before .pre in (
+      same-new _ _ _ _ _ _ _ _ _ _ _ (pre .0) (first .0) (first .1) (pre .1 .0) (second .0) (second .1) (c .same-ranges .ensures),
+      (first .1, second .1),
+    )
 
 pub same-default-spec : {M : Type 1} → statement M
 same-default-spec =
