@@ -12,7 +12,8 @@ use borrow.Author.Tests.{leb-false, ltb-false, ne-eqb, eq-eqb}
 use Rattle.laws.specs.Choice.{either}
 use Rattle.laws.specs.Search.{some}
 use Rattle.laws.specs.Lists.{Rising}
-use Rattle.laws.specs.Select.{anyOf, has}
+use Rattle.laws.specs.Select.{anyOf}
+use Rattle.marks.specs.Marks.{holds}
 use Rattle.laws.proofs.SomeLaws.{some-false}
 use Rattle.laws.proofs.RisingLaws.{rising-lt, rising-le}
 use Rattle.checks.specs.Checks.{falls, exceeds, notBelowNext, isAbove, lacks}
@@ -46,14 +47,14 @@ at-most m xs e i h = ltb-false m (getD xs i 0) (some-false (isAbove m xs) (lengt
 abbrev Under : ℕ → List ℕ → Type 0
 Under p cs = (j : ℕ) → j < length cs → p < getD cs j 0
 
-has-under : (c : ℕ) (ks : List ℕ) → Under c ks → has ks c ≡ false
-unfolding has anyOf
-has-under c [] u = refl
-has-under c (k ∷ ks) u =
-    rw (ne-eqb k c (λ e. omega (arith, u 0 (omega arith)))) (has-under c ks (λ j h. u (suc j) (omega arith)))
+holds-under : (c : ℕ) (ks : List ℕ) → Under c ks → holds ks c ≡ false
+unfolding holds
+holds-under c [] u = refl
+holds-under c (k ∷ ks) u =
+    rw (ne-eqb k c (λ e. omega (arith, u 0 (omega arith)))) (holds-under c ks (λ j h. u (suc j) (omega arith)))
 
 lacks-skip : (p : ℕ) (ks cs : List ℕ) → Under p cs → lacks (p ∷ ks) cs ≡ lacks ks cs
-unfolding lacks has anyOf
+unfolding lacks holds anyOf
 lacks-skip p ks [] u = refl
 lacks-skip p ks (c ∷ cs) u =
     rw (ne-eqb p c (λ e. omega (arith, u 0 (omega arith))), lacks-skip p ks cs (λ j h. u (suc j) (omega arith)))
@@ -78,19 +79,19 @@ module _ (kept codes : List ℕ) (k i : ℕ) where
   lacking-done l h = rw (drop-of-length-le codes h) at (l .left)
 
   pub lacking-end : Lacking kept codes k i → i < length codes → length kept ≤ k → true ≡ lacks kept codes
-  unfolding lacks has anyOf
+  unfolding lacks holds anyOf
   lacking-end l h d =
       rw (drop-of-length-le kept d, drop-cons codes i 0 h) at (l .left)
 
   module _ (rk : Rising kept) (rc : Rising codes) (l : Lacking kept codes k i) (hk : k < length kept) (hi : i < length codes) where
     pub lacking-missed : getD codes i 0 < getD kept k 0 → true ≡ lacks kept codes
-    unfolding lacks has anyOf
+    unfolding lacks holds anyOf
     lacking-missed h =
-        let u = has-under (getD codes i 0) (drop (suc k) kept) (under-drop (getD codes i 0) k rk hk (omega arith)) in
+        let u = holds-under (getD codes i 0) (drop (suc k) kept) (under-drop (getD codes i 0) k rk hk (omega arith)) in
         rw (drop-cons kept k 0 hk, drop-cons codes i 0 hi, ne-eqb (getD kept k 0) (getD codes i 0) (λ e. omega arith), u) at (l .left)
 
     pub lacking-found : getD kept k 0 ≤ getD codes i 0 → getD codes i 0 ≤ getD kept k 0 → Lacking kept codes (k + 1) (i + 1)
-    unfolding lacks has anyOf
+    unfolding lacks holds anyOf
     lacking-found a b =
         let e : getD kept k 0 ≡ getD codes i 0 = omega arith in
         let s = lacks-skip (getD kept k 0) (drop (suc k) kept) (drop (suc i) codes) (under-drop (getD kept k 0) i rc hi (omega arith)) in

@@ -6,7 +6,8 @@ use lib.Dec.{ltb, leb, eqb}
 use lib.ListN.{length, getD}
 use Rattle.laws.specs.Choice.{either}
 use Rattle.laws.specs.Search.{some}
-use Rattle.laws.specs.Select.{anyOf, has}
+use Rattle.laws.specs.Select.{anyOf}
+use Rattle.marks.specs.Marks.{holds}
 use Rattle.number.specs.Limits.{sourceMax, pairsMax, keptMax, glyphCountMax, requestedMax, unicodeMax, newGlyphMax}
 
 -- ---- 1: a size is broken
@@ -44,7 +45,7 @@ badPairs codes glyphs = either (falls codes) (either (exceeds unicodeMax codes) 
 -- ---- 3: kept breaks order or limits, or lacks a listed code point
 
 unfoldable pub lacks : List ℕ → List ℕ → Bool
-lacks kept codes = anyOf (λ c. not (has kept c)) codes
+lacks kept codes = anyOf (λ c. not (holds kept c)) codes
 
 abbrev pub badKept : List ℕ → List ℕ → Bool
 badKept kept codes = either (falls kept) (either (exceeds unicodeMax kept) (lacks kept codes))

@@ -22,3 +22,6 @@ pub mod FrontLaws
 pub mod AnyLaws
 pub mod BranchLaws
 pub mod ListedLaws
+pub mod SelectLaws
+pub mod EqListLaws
+pub mod ReadLaws

@@ -1,9 +1,14 @@
--- The elements of a list that pass a test, and the bytes of its elements one after the other.
-use Prim.Native.Nat.{ℕ}
+-- Lists read off a row, the elements that pass a test, and what is made of each, one after the other.
+use Prim.Native.Nat.{ℕ, zero, suc, _+_}
 use mathlib.Core.List.{List, [], _∷_, _++_}
 use mathlib.Core.Bool.{Bool, true, false}
 use lib.Dec.{eqb}
 use Rattle.laws.specs.Choice.{pick, either}
+
+-- what stands at the n places from i
+unfoldable pub each : {A : Type 0} → (ℕ → A) → ℕ → ℕ → List A
+each f zero i = []
+each f (suc n) i = f i ∷ each f n (i + 1)
 
 -- those that pass p, in order
 unfoldable pub select : {A : Type 0} → (A → Bool) → List A → List A
@@ -14,10 +19,6 @@ select p (x ∷ xs) = let r = select p xs in pick (p x) (x ∷ r) r
 unfoldable pub anyOf : {A : Type 0} → (A → Bool) → List A → Bool
 anyOf p [] = false
 anyOf p (x ∷ xs) = either (p x) (anyOf p xs)
-
--- whether n stands in the list
-unfoldable pub has : List ℕ → ℕ → Bool
-has xs n = anyOf (λ x. eqb x n) xs
 
 -- what f makes of each, one after the other
 unfoldable pub flat : {A B : Type 0} → (A → List B) → List A → List B

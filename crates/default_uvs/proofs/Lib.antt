@@ -1,0 +1,5 @@
+pub mod BitsLaws
+pub mod CoverLaws
+pub mod StreamLaws
+pub mod NewLaws
+pub mod CoversLaws

@@ -1,0 +1,122 @@
+-- Which mappings stay, which glyph a map gives, and which it misses: the code's answers are the definitions'.
+use Prim.Native.Nat.{ℕ, _+_, _*_, _^_, _<_, _≤_}
+use mathlib.Core.Path.{_≡_, sym, _∙_}
+use mathlib.Core.List.{List}
+use mathlib.Core.Bool.{Bool, true, false}
+use native.Mathlib.Omega.{arith}
+use borrow.Author.Tests.{lt-leb, le-leb}
+use lib.ListN.{length, getD, length-append, List·getD-eq-default}
+use lib.Dec.{eqb}
+use lib.Seq.{sets}
+use Rattle.laws.proofs.ChoiceLaws.{by-leb}
+use Rattle.laws.proofs.ReadLaws.{getD-in}
+use Rattle.marks.specs.Marks.{holds}
+use Rattle.number.specs.BigEndian.{be, enc, put, Num}
+use Rattle.number.proofs.BigEndianLaws.{put-after, length-enc}
+use Rattle.number.specs.Limits.{absent}
+use Rattle.laws.specs.Lists.{Pair}
+use Rattle.laws.specs.Select.{flat}
+use Rattle.laws.specs.Search.{some}
+use Rattle.laws.proofs.SelectLaws.{any-select, Counting, counting-end, Copying, copying-start, copying-room, copying-yes, copying-no, copying-end}
+use Rattle.laws.proofs.SearchLaws.{Asking, asking-yes, asking-no}
+use Rattle.uvs.specs.NonDefault.{mapping, mappingAt, mappingBytes, keepsMapping, keptMappings, missing, badMapping}
+use Rattle.non_default_uvs.specs.Lent.{Count, New, badAt}
+
+-- ---- keepsMapping
+
+module _ (xs : List ℕ) (place : ℕ) (kept requested : List ℕ) (c : ℕ) (b : Bool) (n : Num 3 xs place c) (e : b ≡ holds kept c) where
+  pub keeps-kept : b ≡ true → true ≡ keepsMapping kept requested (mapping xs place)
+  unfolding keepsMapping
+  keeps-kept t = rw (← n .is, ← e, t)
+
+  pub keeps-asked : b ≡ false → (g : ℕ) (d : Bool) → Num 2 xs (place + 3) g → d ≡ holds requested g
+      → d ≡ keepsMapping kept requested (mapping xs place)
+  unfolding keepsMapping
+  keeps-asked t g d m h = rw (← n .is, ← e, t, ← m .is) h
+
+pub ruleset keeps-rules = (keeps-kept, keeps-asked)
+
+-- ---- the map
+
+pub new-in : (map : List ℕ) (g : ℕ) → g < length map → getD map g 0 < 256 ^ 2 → New map g (getD map g 0)
+new-in map g h l = record { is = getD-in map g 0 absent h; below = l }
+
+pub new-past : (map : List ℕ) (g : ℕ) → length map ≤ g → New map g absent
+new-past map g h = record { is = sym (List·getD-eq-default map absent h); below = omega arith }
+
+-- a glyph is missing exactly where the map's entry, taken as absent past the end, is absent
+pub missing-absent : (map : List ℕ) (g : ℕ) → missing map g ≡ eqb (getD map g absent) absent
+unfolding missing
+missing-absent map g = by-leb (missing map g ≡ eqb (getD map g absent) absent) (length map) g
+    (λ h. rw (le-leb (length map) g h, List·getD-eq-default map absent h))
+    (λ h. rw (lt-leb (length map) g h))
+
+-- ---- one mapping
+
+module _ (xs : List ℕ) (p : ℕ) (kept map requested : List ℕ) (i : ℕ) (b : Bool) (e : b ≡ keepsMapping kept requested (mapping xs (p + 4 + 5 * i))) where
+  pub bad-not : b ≡ false → false ≡ badAt xs p kept map requested i
+  bad-not t = rw (← e, t)
+
+  pub bad-looked : b ≡ true → (g n : ℕ) → Num 2 xs (p + 4 + 5 * i + 3) g → New map g n → eqb n absent ≡ badAt xs p kept map requested i
+  bad-looked t g n m d = rw (← e, t, missing-absent map (be 2 xs (p + 4 + 5 * i + 3)), ← m .is, d .is)
+
+pub ruleset bad-rules = (bad-not, bad-looked)
+
+-- ---- the whole table, its m mappings asked one by one
+
+module _ (xs : List ℕ) (p : ℕ) (kept map requested : List ℕ) (m i : ℕ) (n : Num 4 xs p m) where
+  bad-all : some (badAt xs p kept map requested) m 0 ≡ badMapping xs p kept map requested
+  unfolding badMapping
+  bad-all = rw (n .is) (any-select (λ m. missing map (m .1)) (keepsMapping kept requested) (mappingAt xs p) (be 4 xs p) 0)
+
+  pub bad-found : (b : Bool) → Asking (badAt xs p kept map requested) m i → i < m → b ≡ badAt xs p kept map requested i → b ≡ true → true ≡ badMapping xs p kept map requested
+  bad-found b a h e t = asking-yes (badAt xs p kept map requested) m i b a h e t ∙ bad-all
+
+  pub bad-none : Asking (badAt xs p kept map requested) m i → m ≤ i → false ≡ badMapping xs p kept map requested
+  bad-none a h = asking-no (badAt xs p kept map requested) m i a h ∙ bad-all
+
+pub ruleset bad-table = (bad-found, bad-none)
+
+pub count-all : (xs : List ℕ) (p : ℕ) (kept requested : List ℕ) (m i k : ℕ) → Num 4 xs p m → Counting (keepsMapping kept requested) (mappingAt xs p) m i k → m ≤ i
+    → Count xs p kept requested k
+count-all xs p kept requested m i k n l h = record {
+  is = rw (n .is) at (counting-end (keepsMapping kept requested) (mappingAt xs p) m i k l h);
+  below = omega (arith, l .few, l .within, n .below);
+}
+
+-- ---- one mapping written
+
+-- the code point, then the new glyph behind it
+pub copy-is : (xs : List ℕ) (place : ℕ) (map out mid fin : List ℕ) (to c g n : ℕ) → Num 3 xs place c → Num 2 xs (place + 3) g → New map g n
+    → mid ≡ put 3 out to c → fin ≡ put 2 mid (to + 3) n → fin ≡ sets out to (mappingBytes map (mapping xs place))
+unfolding put
+copy-is xs place map out mid fin to c g n hc hg hn e d =
+    rw (d, e, ← hc .is, ← hg .is, ← hn .is) (put-after 2 out to (enc 3 c) n (to + 3) (rw (length-enc 3 c)))
+
+pub mapping-size : (map : List ℕ) (m : Pair) → length (mappingBytes map m) ≡ 5
+mapping-size map m = rw (length-append, length-enc 3 (m .0), length-enc 2 (getD map (m .1) absent))
+
+-- ---- all that stay, written one after the other
+
+module _ (xs : List ℕ) (p : ℕ) (kept map requested : List ℕ) (m : ℕ) (out₀ : List ℕ) (to : ℕ) where
+  -- the loop's invariant
+  abbrev pub Copies : List ℕ → ℕ → ℕ → Type 0
+  Copies out place i = Copying (mappingBytes map) (keepsMapping kept requested) (mappingAt xs p) m out₀ to out place i
+
+  pub copies-start : Num 4 xs p m → to + length (flat (mappingBytes map) (keptMappings xs p kept requested)) ≤ length out₀ → Copies out₀ to 0
+  copies-start n h = copying-start (mappingBytes map) (keepsMapping kept requested) (mappingAt xs p) m out₀ to (rw (n .is) h)
+
+  module _ (out : List ℕ) (place i : ℕ) (b : Bool) (l : Copies out place i) (h : i < m) (e : b ≡ keepsMapping kept requested (mappingAt xs p i)) where
+    pub copies-room : b ≡ true → place + 5 ≤ length out
+    copies-room t = rw (mapping-size map (mappingAt xs p i)) at (copying-room (mappingBytes map) (keepsMapping kept requested) (mappingAt xs p) m out₀ to out place i b l h e t)
+
+    pub copies-yes : b ≡ true → (next : List ℕ) → next ≡ sets out place (mappingBytes map (mappingAt xs p i)) → Copies next (place + 5) (i + 1)
+    copies-yes t next d = rw (mapping-size map (mappingAt xs p i)) at (copying-yes (mappingBytes map) (keepsMapping kept requested) (mappingAt xs p) m out₀ to out place i b l h e t next d)
+
+    pub copies-no : b ≡ false → Copies out place (i + 1)
+    copies-no t = copying-no (mappingBytes map) (keepsMapping kept requested) (mappingAt xs p) m out₀ to out place i b l h e t
+
+  pub copies-end : Num 4 xs p m → (out : List ℕ) (place i : ℕ) → Copies out place i → m ≤ i → out ≡ sets out₀ to (flat (mappingBytes map) (keptMappings xs p kept requested))
+  copies-end n out place i l h = rw (n .is) at (copying-end (mappingBytes map) (keepsMapping kept requested) (mappingAt xs p) m out₀ to out place i l h)
+
+pub ruleset copies = (copies-start, copies-yes, copies-no, copies-end)

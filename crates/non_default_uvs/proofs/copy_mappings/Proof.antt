@@ -1,0 +1,84 @@
+-- What is left, written behind what is written, gives the whole.
+use borrow.Author.Needs.{needs}
+use native.Mathlib.Omega.{arith}
+use Prim.Native.Nat.{_-_}
+use Rattle.non_default_uvs.proofs.MappingLaws.{Copies, copies, copies-room}
+use Rattle.non_default_uvs.proofs.copy_mappings.Statement.{statement}
+use Rattle.non_default_uvs.proofs.copy_mappings.Tie as tie
+
+abbrev Inv-loop : tie.InvT-loop
+Inv-loop out₀ to s p kept map requested m i₀ place₀ out i place = Copies s p kept map requested m out₀ to out place i
+
+abbrev μ-loop : tie.MeasureT-loop
+μ-loop out₀ to s p kept map requested m i₀ place₀ out i place = m - i
+
+u32-at-requires : tie.Need-u32-at-requires Inv-loop μ-loop
+u32-at-requires c κs = search needs
+
+cast-m : tie.Need-cast-m Inv-loop μ-loop
+cast-m c = search needs
+
+loop-holds : tie.Need-loop-holds Inv-loop μ-loop
+loop-holds c = search copies
+
+add-from : tie.Need-add-from Inv-loop μ-loop
+add-from c = search needs
+
+mul-from : tie.Need-mul-from Inv-loop μ-loop
+mul-from c = search needs
+
+add-from-2 : tie.Need-add-from-2 Inv-loop μ-loop
+add-from-2 c = search needs
+
+keeps-mapping-requires : tie.Need-keeps-mapping-requires Inv-loop μ-loop
+keeps-mapping-requires c κs = search needs
+
+add-i : tie.Need-add-i Inv-loop μ-loop
+add-i c = search needs
+
+copy-uvs-mapping-requires : tie.Need-copy-uvs-mapping-requires Inv-loop μ-loop
+copy-uvs-mapping-requires c κs = (search copies-room, omega arith)
+
+add-place : tie.Need-add-place Inv-loop μ-loop
+add-place c = search needs
+
+loop-less : tie.Need-loop-less Inv-loop μ-loop
+loop-less c = omega arith
+
+loop-again : tie.Need-loop-again Inv-loop μ-loop
+loop-again c = search copies
+
+loop-less-2 : tie.Need-loop-less-2 Inv-loop μ-loop
+loop-less-2 c = omega arith
+
+loop-again-2 : tie.Need-loop-again-2 Inv-loop μ-loop
+loop-again-2 c = search copies
+
+same-length : tie.Need-same-length Inv-loop μ-loop
+same-length c = search needs
+
+returns : tie.Need-returns Inv-loop μ-loop
+returns c = search copies
+
+pub copy-mappings-spec : {M : Type 1} → statement M
+copy-mappings-spec =
+    tie.close
+    (tie.spec
+    Inv-loop
+    μ-loop
+    u32-at-requires
+    cast-m
+    loop-holds
+    add-from
+    mul-from
+    add-from-2
+    keeps-mapping-requires
+    add-i
+    copy-uvs-mapping-requires
+    add-place
+    loop-less
+    loop-again
+    loop-less-2
+    loop-again-2
+    same-length
+    returns)

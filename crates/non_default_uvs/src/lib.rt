@@ -1,0 +1,150 @@
+// The new non-default table of a selector record: whether it names a missing glyph, how long it is, and its bytes.
+ghost use mathlib.Core.Path.{_≡_};
+ghost use Prim.Native.Nat.{_+_, _*_, _<_, _≤_};
+ghost use lib.ListN.{length};
+ghost use lib.Seq.{sets};
+ghost use Rattle.laws.specs.Select.{flat};
+ghost use Rattle.number.specs.BigEndian.{be};
+ghost use Rattle.uvs.specs.NonDefault.{mapping, keepsMapping, keptMappings, mappingBytes, newNonDefault, badMapping};
+ghost use Rattle.non_default_uvs.specs.Lent.{Mapping, Table, New, Count, badAt};
+
+// Whether the mapping at `place` stays: its code point is kept, or its old glyph requested.
+pub fn keeps_mapping(s: &[u8], place: usize, kept: &[u32], requested: &[u16]) -> bool
+    requires { ⌜ Mapping (now s) place (now kept) (now requested) ⌝ }
+    ensures { λ r. ⌜ r ≡ keepsMapping (now (kept .entry)) (now (requested .entry)) (mapping (now (s .entry)) place) ⌝ }
+{
+    if marks::member(kept, number::u24_at(s, place)) {
+        return true;
+    }
+    marks::member_glyph(requested, number::u16_at(s, place + 3) as u16)
+}
+
+// The new glyph of an old one; 65,535 where the map has none.
+pub fn new_glyph(map: &[u16], old: u32) -> u16
+    ensures { λ r. ⌜ New (now (map .entry)) old r ⌝ }
+{
+    if (old as usize) < map.len() {
+        return map[old as usize];
+    }
+    number::limits::NewGlyph::ABSENT
+}
+
+// Whether mapping i is to be kept and names a glyph that the map misses.
+fn is_bad(s: &[u8], p: usize, kept: &[u32], map: &[u16], requested: &[u16], i: usize) -> bool
+    requires { ⌜ Mapping (now s) (p + 4 + 5 * i) (now kept) (now requested) ⌝ }
+    ensures { λ r. ⌜ r ≡ badAt (now (s .entry)) p (now (kept .entry)) (now (map .entry)) (now (requested .entry)) i ⌝ }
+{
+    let place = p + 4 + 5 * i;
+    if keeps_mapping(s, place, kept, requested) {
+        return new_glyph(map, number::u16_at(s, place + 3)) == number::limits::NewGlyph::ABSENT;
+    }
+    false
+}
+
+// Refusal 8: whether some mapping to be kept names a glyph that the map misses.
+pub fn bad_mapping(s: &[u8], p: usize, kept: &[u32], map: &[u16], requested: &[u16]) -> bool
+    requires { ⌜ Table (now s) p (now kept) (now requested) ⌝ }
+    ensures { λ r. ⌜ r ≡ badMapping (now (s .entry)) p (now (kept .entry)) (now (map .entry)) (now (requested .entry)) ⌝ }
+{
+    let m = number::u32_at(s, p) as usize;
+    let mut i = 0;
+    while i < m {
+        if is_bad(s, p, kept, map, requested, i) {
+            return true;
+        }
+        i += 1;
+    }
+    false
+}
+
+// How many mappings stay.
+fn count_mappings(s: &[u8], p: usize, kept: &[u32], requested: &[u16]) -> usize
+    requires { ⌜ Table (now s) p (now kept) (now requested) ⌝ }
+    ensures { λ r. ⌜ Count (now (s .entry)) p (now (kept .entry)) (now (requested .entry)) r ⌝ }
+{
+    let m = number::u32_at(s, p) as usize;
+    let mut i = 0;
+    let mut n = 0;
+    while i < m {
+        let stays = keeps_mapping(s, p + 4 + 5 * i, kept, requested);
+        i += 1;
+        if stays {
+            n += 1;
+        }
+    }
+    n
+}
+
+// Writes a mapping's code point and new glyph.
+fn copy_uvs_mapping(out: &mut [u8], to: usize, s: &[u8], place: usize, map: &[u16])
+    requires { ⌜ (to + 5 ≤ length (now out)) × (place + 5 ≤ length (now s)) ⌝ }
+    ensures { λ _. ⌜ now (out .exit) ≡ sets (now (out .entry)) to (mappingBytes (now (map .entry)) (mapping (now (s .entry)) place)) ⌝ }
+{
+    let c = number::u24_at(s, place);
+    let old = number::u16_at(s, place + 3);
+    let new = new_glyph(map, old) as u32;
+    number::put_u24(out, to, c);
+    number::put_u16(out, to + 3, new);
+}
+
+// Writes every mapping that stays, in the source's order.
+fn copy_mappings(
+    out: &mut [u8],
+    to: usize,
+    s: &[u8],
+    p: usize,
+    kept: &[u32],
+    map: &[u16],
+    requested: &[u16],
+)
+    requires { ⌜ Table (now s) p (now kept) (now requested) ⌝ }
+    requires { ⌜ to + length (flat (mappingBytes (now map)) (keptMappings (now s) p (now kept) (now requested))) ≤ length (now out) ⌝ }
+    ensures { λ _. ⌜ now (out .exit) ≡ sets (now (out .entry)) to (flat (mappingBytes (now (map .entry))) (keptMappings (now (s .entry)) p (now (kept .entry)) (now (requested .entry)))) ⌝ }
+{
+    let m = number::u32_at(s, p) as usize;
+    let mut i = 0;
+    let mut place = to;
+    while i < m {
+        let from = p + 4 + 5 * i;
+        let stays = keeps_mapping(s, from, kept, requested);
+        i += 1;
+        if stays {
+            copy_uvs_mapping(out, place, s, from, map);
+            place += 5;
+        }
+    }
+}
+
+// How long the new table is: 0 where there is none.
+pub fn non_default_size(s: &[u8], p: usize, kept: &[u32], map: &[u16], requested: &[u16]) -> usize
+    requires { ⌜ Table (now s) p (now kept) (now requested) ⌝ }
+    ensures { λ r. ⌜ r ≡ length (newNonDefault (now (s .entry)) p (now (kept .entry)) (now (map .entry)) (now (requested .entry))) ⌝ }
+{
+    let n = count_mappings(s, p, kept, requested);
+    if n == 0 {
+        return 0;
+    }
+    4 + 5 * n
+}
+
+// Writes the new table; nothing where there is none.
+pub fn copy_non_default_uvs(
+    out: &mut [u8],
+    to: usize,
+    s: &[u8],
+    p: usize,
+    kept: &[u32],
+    map: &[u16],
+    requested: &[u16],
+)
+    requires { ⌜ Table (now s) p (now kept) (now requested) ⌝ }
+    requires { ⌜ to + length (newNonDefault (now s) p (now kept) (now map) (now requested)) ≤ length (now out) ⌝ }
+    ensures { λ _. ⌜ now (out .exit) ≡ sets (now (out .entry)) to (newNonDefault (now (s .entry)) p (now (kept .entry)) (now (map .entry)) (now (requested .entry))) ⌝ }
+{
+    let n = count_mappings(s, p, kept, requested);
+    if n == 0 {
+        return;
+    }
+    number::put_u32(out, to, n as u32);
+    copy_mappings(out, to + 4, s, p, kept, map, requested);
+}

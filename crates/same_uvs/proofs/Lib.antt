@@ -1,0 +1,3 @@
+pub mod CompareLaws
+pub mod RowLaws
+pub mod StreamsLaws

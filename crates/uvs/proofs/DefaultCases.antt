@@ -1,0 +1,45 @@
+-- C9 and its neighbours, computed from the definitions of the default table.
+use mathlib.Core.Path.{_≡_, refl}
+use mathlib.Core.List.{[], _∷_}
+use mathlib.Core.Bool.{true, false}
+use Rattle.laws.specs.Search.{first}
+use Rattle.laws.specs.Select.{each, select, anyOf, flat}
+use Rattle.number.specs.BigEndian.{be, enc}
+use Rattle.uvs.specs.Tables.{table}
+use Rattle.uvs.specs.Default.{inRanges, bitLength, coveredPoints, longRanges, longest, follow, newDefault}
+
+-- C9: nine ranges and two kept points give ranges, eight give single points
+pub nine-ranges : inRanges 9 (0x41 ∷ 0x42 ∷ []) ≡ true
+unfolding inRanges bitLength first
+nine-ranges = refl
+
+pub eight-single : inRanges 8 (0x41 ∷ 0x42 ∷ []) ≡ false
+unfolding inRanges bitLength first
+eight-single = refl
+
+-- no range gives single points, of which there are none
+pub none-single : inRanges 0 [] ≡ false
+unfolding inRanges bitLength first
+none-single = refl
+
+-- points inside a range are covered: one range of 0x41 and two more
+pub inside-covered : coveredPoints (0 ∷ 0 ∷ 0 ∷ 1 ∷ 0 ∷ 0 ∷ 0x41 ∷ 2 ∷ []) 0 (0x40 ∷ 0x42 ∷ 0x43 ∷ 0x44 ∷ []) ≡ 0x42 ∷ 0x43 ∷ []
+unfolding select anyOf each be
+inside-covered = refl
+
+-- adjacent points share a range, a gap begins another
+pub gap-cuts : longRanges (5 ∷ 6 ∷ 7 ∷ 9 ∷ 10 ∷ []) ≡ (5, 2) ∷ (9, 1) ∷ []
+unfolding longest follow
+gap-cuts = refl
+
+-- with at most two points after the start, the range ends there
+pub most-cuts : longest 2 0 (5 ∷ 6 ∷ 7 ∷ 8 ∷ 9 ∷ []) ≡ (5, 2) ∷ (8, 1) ∷ []
+unfolding longest follow
+most-cuts = refl
+
+-- a kept point inside a range is written also where the table is written in ranges: U+FE00 alone kept, ranges U+FDFF and one more, U+FE10, U+FE20
+pub inside-written :
+    newDefault (0 ∷ 0 ∷ 0 ∷ 3 ∷ 0 ∷ 0xFD ∷ 0xFF ∷ 1 ∷ 0 ∷ 0xFE ∷ 0x10 ∷ 0 ∷ 0 ∷ 0xFE ∷ 0x20 ∷ 0 ∷ []) 0 (0xFE00 ∷ [])
+    ≡ 0 ∷ 0 ∷ 0 ∷ 1 ∷ 0 ∷ 0xFE ∷ 0 ∷ 0 ∷ []
+unfolding newDefault table flat enc inRanges bitLength first select anyOf each be longest follow
+inside-written = refl

@@ -1,0 +1,3 @@
+pub mod TablesLaws
+pub mod DefaultCases
+pub mod NonDefaultCases
