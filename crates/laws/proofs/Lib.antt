@@ -25,3 +25,6 @@ pub mod ListedLaws
 pub mod SelectLaws
 pub mod EqListLaws
 pub mod ReadLaws
+pub mod LastsLaws
+pub mod SetsCommLaws
+pub mod SeekingLaws

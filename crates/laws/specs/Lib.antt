@@ -6,3 +6,4 @@ pub mod Select
 pub mod Linked
 pub mod Same
 pub mod Listed
+pub mod Lasts

@@ -11,7 +11,7 @@ use Rattle.laws.specs.Lists.{Pair, pairs}
 use Rattle.laws.specs.Select.{select}
 use Rattle.laws.proofs.ChoiceLaws.{both-right, false-true}
 use Rattle.laws.proofs.SetsLaws.{take-sets}
-use Rattle.laws.proofs.LengthLaws.{length-map, length-pairs}
+use Rattle.laws.proofs.LengthLaws.{length-map, length-pairs, length-select}
 use Rattle.number.specs.BigEndian.{Bytes, be}
 use Rattle.number.proofs.BigEndianLaws.{be-lt}
 use Rattle.source.specs.declared.Kind.{Kind}
@@ -49,15 +49,6 @@ pub ruleset fronts = (front-codes, front-glyphs)
 pub pairs-columns : (ps : List Pair) → pairs (codesOf ps) (glyphsOf ps) ≡ ps
 pairs-columns [] = refl
 pairs-columns (p ∷ ps) = ap (λ (l : List Pair). p ∷ l) (pairs-columns ps)
-
-length-select : (p : Pair → Bool) (ps : List Pair) → length (select p ps) ≤ length ps
-unfolding select
-length-select p [] = omega arith
-length-select p (x ∷ ps) = go (p x) (select p ps) (length-select p ps)
-  where
-    go : (t : Bool) (r : List Pair) → length r ≤ length ps → length (pick t (x ∷ r) r) ≤ suc (length ps)
-    go true r h = omega arith
-    go false r h = omega arith
 
 pub length-listed : (xs : List ℕ) (n : ℕ) (cs gs : List ℕ) (k : ℕ) → length (listed xs n cs gs k) ≤ length cs
 unfolding listed

@@ -1,0 +1,6 @@
+pub mod SlotsLaws
+pub mod PlacingLaws
+pub mod RowsLaws
+pub mod LoopLaws
+pub mod WholeLaws
+pub mod Format14Cases

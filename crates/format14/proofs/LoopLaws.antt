@@ -1,0 +1,149 @@
+-- The loops over the tables: refusal 8 asked record by record, lengths taken one by one, tables written from the last to the first.
+use Prim.Native.Nat.{ℕ, _+_, _-_, _<_, _≤_}
+use mathlib.Core.Path.{_≡_, refl, sym, _∙_}
+use mathlib.Core.List.{List}
+use mathlib.Core.Bool.{Bool, true, false}
+use native.Mathlib.Omega.{arith}
+use lib.ListN.{length, getD, set, length-set, length-append}
+use lib.Seq.{sets, length-sets, getD-set-same, getD-set-other}
+use Rattle.laws.specs.Pieces.{concat}
+use Rattle.laws.specs.Search.{some}
+use Rattle.laws.specs.Select.{eqList}
+use Rattle.laws.specs.Lasts.{lasts, behind}
+use Rattle.laws.proofs.ChoiceLaws.{by-leb}
+use Rattle.laws.proofs.LastsLaws.{behind-le, eqList-length}
+use Rattle.laws.proofs.SearchLaws.{Asking, asking-start, asking-on, asking-yes, asking-no}
+use Rattle.laws.proofs.SelectLaws.{any-select}
+use Rattle.laws.proofs.SetsCommLaws.{sets-before}
+use Rattle.number.specs.BigEndian.{Num}
+use Rattle.selector_tables.specs.Selectors.{Given, selectorRecords, keepsSelector, badRecord, badKept}
+use Rattle.selector_tables.specs.ByNumber.{slot, Size, tableMax}
+use Rattle.format14.specs.Format14.{refused8}
+use Rattle.format14.specs.Ends.{from, Written, Lengths, Ends, Stops, Sizes, endsAt}
+use Rattle.format14.proofs.SlotsLaws.{written-turn, written-still, behind-turn}
+
+-- ---- refusal 8
+
+module _ (g : Given) (n k : ℕ) (q : Num 4 (g .source) (g .start + 6) n) where
+  refused-all : some (badKept g) n 0 ≡ refused8 g
+  refused-all = rw (q .is) (any-select (badRecord g) (keepsSelector g) (λ i. i) (selectorRecords g) 0)
+
+  pub refused-yes : (b : Bool) → Asking (badKept g) n k → k < n → b ≡ badKept g k → b ≡ true → true ≡ refused8 g
+  refused-yes b a h e t = asking-yes (badKept g) n k b a h e t ∙ refused-all
+
+  pub refused-no : Asking (badKept g) n k → n ≤ k → false ≡ refused8 g
+  refused-no a h = asking-no (badKept g) n k a h ∙ refused-all
+
+pub ruleset refusing = (asking-start, asking-on, refused-yes, refused-no)
+
+-- ---- lengths
+
+-- the tables before t are measured
+pub record Measuring (f : ℕ → List ℕ) (m t : ℕ) (ls : List ℕ) : Type 0 where
+  pub within : t ≤ m
+  pub room : m ≤ length ls
+  pub each : (j : ℕ) → j < t → getD ls j 0 ≡ length (f j)
+  pub small : (j : ℕ) → j < t → getD ls j 0 ≤ tableMax
+
+pub measuring-start : (f : ℕ → List ℕ) (m : ℕ) (ls : List ℕ) → m ≤ length ls → Measuring f m 0 ls
+measuring-start f m ls h = record { within = omega arith; room = h; each = λ j l. absurd (omega arith); small = λ j l. absurd (omega arith) }
+
+pub measuring-on : (g : Given) (m t : ℕ) (ls : List ℕ) (r : ℕ) → Measuring (slot g) m t ls → t < m → Size g t r → Measuring (slot g) m (t + 1) (set ls t r)
+measuring-on g m t ls r p h z = record {
+  within = omega arith;
+  room = rw length-set (p .room);
+  each = λ j l. by-leb (getD (set ls t r) j 0 ≡ length (slot g j)) t j
+      (λ a.
+      let same : j ≡ t = omega arith in
+      rw same (getD-set-same ls t r 0 (omega (arith, p .room)) ∙ z .is))
+      (λ a. getD-set-other ls t j r 0 (λ e. omega arith) ∙ p .each j a);
+  small = λ j l. by-leb (getD (set ls t r) j 0 ≤ tableMax) t j
+      (λ a.
+      let same : j ≡ t = omega arith in
+      rw (same, getD-set-same ls t r 0 (omega (arith, p .room))) (z .below))
+      (λ a. rw (getD-set-other ls t j r 0 (λ e. omega arith)) (p .small j a));
+}
+
+pub measuring-end : (f : ℕ → List ℕ) (m t : ℕ) (ls : List ℕ) → Measuring f m t ls → m ≤ t → Lengths f m ls
+measuring-end f m t ls p h = record { room = p .room; each = λ j l. p .each j (omega arith); small = λ j l. p .small j (omega arith) }
+
+pub ruleset measuring = (measuring-start, measuring-on, measuring-end)
+
+-- ---- tables
+
+-- those of the tables from k on that are written stand before `stop`
+pub record Filling (f : ℕ → List ℕ) (m stop : ℕ) (out₀ : List ℕ) (k : ℕ) (out : List ℕ) (tail : ℕ) : Type 0 where
+  pub within : k ≤ m
+  pub same : length out ≡ length out₀
+  pub total : tail ≡ length (concat (Written f m k))
+  pub is : out ≡ sets out₀ (stop - tail) (concat (Written f m k))
+
+module _ (f : ℕ → List ℕ) (m stop : ℕ) (out₀ : List ℕ) where
+  pub filling-start : Filling f m stop out₀ m out₀ 0
+  unfolding from lasts concat
+  filling-start =
+      let e : m - m ≡ 0 = omega arith in
+      record { within = omega arith; same = refl; total = rw e; is = rw e }
+
+  module _ (k : ℕ) (out : List ℕ) (tail : ℕ) (ends : List ℕ) (p : Filling f m stop out₀ k out tail) (e : Ends f m ends) (h : 0 < k) where
+    back : k - 1 + 1 ≡ k
+    back = omega arith
+
+    inside : k - 1 < m
+    inside = omega (arith, p .within)
+
+    far-is : getD ends (k - 1) 0 ≡ behind (f (k - 1)) (Written f m 0)
+    far-is = e .each (k - 1) inside
+
+    pub filling-still : getD ends (k - 1) 0 ≤ tail → Filling f m stop out₀ (k - 1) out tail
+    filling-still l =
+        let low : behind (f (k - 1)) (Written f m 0) ≤ length (concat (Written f m (k - 1 + 1))) = rw back (omega (arith, far-is, p .total)) in
+        let same = rw back at (written-still f m (k - 1) inside low) in
+        record { within = omega (arith, p .within); same = p .same; total = rw same (p .total); is = rw same (p .is) }
+
+    module _ (z : Stops f m stop out₀) where
+      pub far-fits : getD ends (k - 1) 0 ≤ stop
+      far-fits = rw far-is (omega (arith, behind-le (f (k - 1)) (Written f m 0), z .room))
+
+      module _ (l : tail < getD ends (k - 1) 0) where
+        high : length (concat (Written f m (k - 1 + 1))) < behind (f (k - 1)) (Written f m 0)
+        high = rw back (omega (arith, far-is, p .total))
+
+        far-sum : getD ends (k - 1) 0 ≡ length (f (k - 1)) + tail
+        far-sum =
+            let sum = rw back at (behind-turn f m (k - 1) inside high) in
+            omega (arith, far-is, sum, p .total)
+
+        filling-room : stop - getD ends (k - 1) 0 + length (f (k - 1)) ≤ length out
+        filling-room = omega (arith, far-sum, far-fits, p .same, z .within)
+
+        pub filling-last : (next : List ℕ) → next ≡ sets out (stop - getD ends (k - 1) 0) (f (k - 1)) → Filling f m stop out₀ (k - 1) next (getD ends (k - 1) 0)
+        unfolding concat
+        filling-last next d =
+            let more = rw back at (written-turn f m (k - 1) inside high) in
+            let place : stop - getD ends (k - 1) 0 + length (f (k - 1)) ≡ stop - tail = omega (arith, far-sum, far-fits) in
+            record {
+              within = omega (arith, p .within);
+              same = rw (d, length-sets) (p .same);
+              total = rw (more, length-append) (omega (arith, far-sum, p .total));
+              is = rw (d, p .is, more) (sets-before out₀ (f (k - 1)) (concat (Written f m k)) (stop - tail) (stop - getD ends (k - 1) 0) place);
+            }
+
+  pub filling-end : (k : ℕ) (out : List ℕ) (tail : ℕ) → Filling f m stop out₀ k out tail → k ≤ 0 → out ≡ endsAt stop out₀ (concat (Written f m 0))
+  filling-end k out tail p h =
+      let z : k ≡ 0 = omega arith in
+      let total = rw z at (p .total) in
+      let is = rw z at (p .is) in
+      rw (← total) is
+
+pub ruleset filling = (filling-start, filling-still, filling-last, filling-end)
+
+pub slot-room : (g : Given) (m stop : ℕ) (out₀ : List ℕ) (k : ℕ) (out : List ℕ) (tail : ℕ) (ends : List ℕ) → Filling (slot g) m stop out₀ k out tail → Ends (slot g) m ends → 0 < k
+    → Stops (slot g) m stop out₀ → tail < getD ends (k - 1) 0 → stop - getD ends (k - 1) 0 + length (slot g (k - 1)) ≤ length out
+slot-room g m stop out₀ k out tail ends p e h z l = filling-room (slot g) m stop out₀ k out tail ends p e h z l
+
+-- ---- equal tables
+
+-- tables of unequal length are not equal
+pub unequal : (g : Given) (t size j other : ℕ) → Sizes g t size j other → (size ≡ other → ⊥) → false ≡ eqList (slot g t) (slot g j)
+unequal g t size j other z n = sym (eqList-length (slot g t) (slot g j) (λ e. n (z .is ∙ e ∙ sym (z .also))))

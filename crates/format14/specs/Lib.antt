@@ -1,0 +1,2 @@
+pub mod Format14
+pub mod Ends

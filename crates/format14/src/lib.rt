@@ -1,0 +1,403 @@
+// The new subtable of format 14: which selector records stay, where their tables stand, and its bytes.
+ghost use mathlib.Core.Path.{_≡_};
+ghost use Prim.Native.Nat.{_+_, _*_, _<_, _≤_};
+ghost use lib.ListN.{length, getD};
+ghost use lib.Seq.{sets};
+ghost use Rattle.laws.specs.Pieces.{concat};
+ghost use Rattle.laws.specs.Select.{eqList};
+ghost use Rattle.number.specs.BigEndian.{be};
+ghost use Rattle.selector_tables.specs.Selectors.{given};
+ghost use Rattle.selector_tables.specs.ByNumber.{slot, Readable, Numbered};
+ghost use Rattle.format14.specs.Format14.{refused8, rows, lengthOf, format14, outcome};
+ghost use Rattle.format14.specs.Ends.{laterEqual, Written, Lengths, Ends, All, Stops, Sizes, Total, Planned, endsAt};
+
+// What becomes of a format 14 subtable: refusal 8, nothing left to write, or the length of the new one.
+pub enum Outcome {
+    Refused8,
+    Empty,
+    Length(usize),
+}
+
+// Refusal 8: whether some kept selector record has a mapping to be kept that names a missing glyph.
+fn refuses(s: &[u8], at: usize, len: usize, kept: &[u32], map: &[u16], requested: &[u16]) -> bool
+    requires { ⌜ Readable (now s) at len (now kept) (now requested) ⌝ }
+    ensures { λ r. ⌜ r ≡ refused8 (given (now (s .entry)) at len (now (kept .entry)) (now (map .entry)) (now (requested .entry))) ⌝ }
+{
+    let n = number::u32_at(s, at + 6) as usize;
+    let mut k = 0;
+    while k < n {
+        if selector_tables::bad_record(s, at, len, kept, map, requested, k) {
+            return true;
+        }
+        k += 1;
+    }
+    false
+}
+
+// The lengths of the m new tables. The flags are work room.
+fn measure(
+    s: &[u8],
+    at: usize,
+    len: usize,
+    kept: &[u32],
+    map: &[u16],
+    requested: &[u16],
+    flags: &mut [u8],
+    lengths: &mut [usize],
+    m: usize,
+)
+    requires { ⌜ Readable (now s) at len (now kept) (now requested) ⌝ }
+    requires { ⌜ All (now s) at (now kept) (now flags) m (now flags) ⌝ }
+    requires { ⌜ m ≤ length (now lengths) ⌝ }
+    ensures { λ _. ⌜ Lengths (slot (given (now (s .entry)) at len (now (kept .entry)) (now (map .entry)) (now (requested .entry)))) m (now (lengths .exit)) ⌝ }
+{
+    let mut t = 0;
+    while t < m {
+        lengths[t] = selector_tables::table_size(s, at, len, kept, map, requested, flags, t);
+        t += 1;
+    }
+}
+
+// Whether tables t and j, the first of them there, are equal, given their lengths. The flags are work room.
+fn equal_tables(
+    s: &[u8],
+    at: usize,
+    len: usize,
+    kept: &[u32],
+    map: &[u16],
+    requested: &[u16],
+    flags: &mut [u8],
+    others: &mut [u8],
+    t: usize,
+    size: usize,
+    j: usize,
+    other: usize,
+) -> bool
+    requires { ⌜ Readable (now s) at len (now kept) (now requested) ⌝ }
+    requires { ⌜ Numbered (now s) at (now kept) (now flags) t ⌝ }
+    requires { ⌜ Numbered (now s) at (now kept) (now others) j ⌝ }
+    requires { ⌜ Sizes (given (now s) at len (now kept) (now map) (now requested)) t size j other ⌝ }
+    ensures { λ r. ⌜ r ≡ eqList (slot (given (now (s .entry)) at len (now (kept .entry)) (now (map .entry)) (now (requested .entry))) t) (slot (given (now (s .entry)) at len (now (kept .entry)) (now (map .entry)) (now (requested .entry))) j) ⌝ }
+{
+    if size != other {
+        return false;
+    }
+    selector_tables::same_table(s, at, len, kept, map, requested, flags, others, t, j)
+}
+
+// The next table after t, which is there, that equals it; m if none does.
+fn later_equal(
+    s: &[u8],
+    at: usize,
+    len: usize,
+    kept: &[u32],
+    map: &[u16],
+    requested: &[u16],
+    flags: &mut [u8],
+    others: &mut [u8],
+    lengths: &[usize],
+    m: usize,
+    t: usize,
+) -> usize
+    requires { ⌜ Readable (now s) at len (now kept) (now requested) ⌝ }
+    requires { ⌜ All (now s) at (now kept) (now flags) m (now others) ⌝ }
+    requires { ⌜ Lengths (slot (given (now s) at len (now kept) (now map) (now requested))) m (now lengths) ⌝ }
+    requires { ⌜ (t < m) × (0 < getD (now lengths) t 0) ⌝ }
+    ensures { λ r. ⌜ r ≡ laterEqual (slot (given (now (s .entry)) at len (now (kept .entry)) (now (map .entry)) (now (requested .entry)))) m t ⌝ }
+{
+    let mut j = t + 1;
+    while j < m {
+        let same = equal_tables(
+            s,
+            at,
+            len,
+            kept,
+            map,
+            requested,
+            flags,
+            others,
+            t,
+            lengths[t],
+            j,
+            lengths[j],
+        );
+        if same {
+            return j;
+        }
+        j += 1;
+    }
+    j
+}
+
+// The distance of each table from the end of the subtable, found from the last table to the first; the length of all that are written.
+fn place_tables(
+    s: &[u8],
+    at: usize,
+    len: usize,
+    kept: &[u32],
+    map: &[u16],
+    requested: &[u16],
+    flags: &mut [u8],
+    others: &mut [u8],
+    lengths: &[usize],
+    ends: &mut [usize],
+    m: usize,
+) -> usize
+    requires { ⌜ Readable (now s) at len (now kept) (now requested) ⌝ }
+    requires { ⌜ All (now s) at (now kept) (now flags) m (now others) ⌝ }
+    requires { ⌜ Lengths (slot (given (now s) at len (now kept) (now map) (now requested))) m (now lengths) ⌝ }
+    requires { ⌜ m ≤ length (now ends) ⌝ }
+    ensures { λ _. ⌜ Ends (slot (given (now (s .entry)) at len (now (kept .entry)) (now (map .entry)) (now (requested .entry)))) m (now (ends .exit)) ⌝ }
+    ensures { λ r. ⌜ Total (slot (given (now (s .entry)) at len (now (kept .entry)) (now (map .entry)) (now (requested .entry)))) m r ⌝ }
+{
+    let mut tail = 0;
+    let mut k = m;
+    while k > 0 {
+        k -= 1;
+        let size = lengths[k];
+        if size == 0 {
+            ends[k] = 0;
+        } else {
+            let j = later_equal(
+                s,
+                at,
+                len,
+                kept,
+                map,
+                requested,
+                flags,
+                others,
+                lengths,
+                m,
+                k,
+            );
+            if j < m {
+                ends[k] = ends[j];
+            } else {
+                tail += size;
+                ends[k] = tail;
+            }
+        }
+    }
+    tail
+}
+
+// Writes the tables that are written at their own place, from the last to the first, so that they end at `stop`.
+fn copy_var_selector_record_uvs_tables(
+    out: &mut [u8],
+    stop: usize,
+    s: &[u8],
+    at: usize,
+    len: usize,
+    kept: &[u32],
+    map: &[u16],
+    requested: &[u16],
+    flags: &mut [u8],
+    ends: &[usize],
+    m: usize,
+)
+    requires { ⌜ Readable (now s) at len (now kept) (now requested) ⌝ }
+    requires { ⌜ All (now s) at (now kept) (now flags) m (now flags) ⌝ }
+    requires { ⌜ Ends (slot (given (now s) at len (now kept) (now map) (now requested))) m (now ends) ⌝ }
+    requires { ⌜ Stops (slot (given (now s) at len (now kept) (now map) (now requested))) m stop (now out) ⌝ }
+    ensures { λ _. ⌜ now (out .exit) ≡ endsAt stop (now (out .entry)) (concat (Written (slot (given (now (s .entry)) at len (now (kept .entry)) (now (map .entry)) (now (requested .entry)))) m 0)) ⌝ }
+{
+    let mut tail = 0;
+    let mut k = m;
+    while k > 0 {
+        k -= 1;
+        let far = ends[k];
+        if far > tail {
+            selector_tables::copy_table(
+                out,
+                stop - far,
+                s,
+                at,
+                len,
+                kept,
+                map,
+                requested,
+                flags,
+                k,
+            );
+            tail = far;
+        }
+    }
+}
+
+// Measures the m tables, then places them. The flags are work room.
+fn lay_out(
+    s: &[u8],
+    at: usize,
+    len: usize,
+    kept: &[u32],
+    map: &[u16],
+    requested: &[u16],
+    flags: &mut [u8],
+    others: &mut [u8],
+    ends: &mut [usize],
+    m: usize,
+) -> usize
+    requires { ⌜ Readable (now s) at len (now kept) (now requested) ⌝ }
+    requires { ⌜ All (now s) at (now kept) (now flags) m (now others) ⌝ }
+    requires { ⌜ m ≤ length (now ends) ⌝ }
+    ensures { λ _. ⌜ Ends (slot (given (now (s .entry)) at len (now (kept .entry)) (now (map .entry)) (now (requested .entry)))) m (now (ends .exit)) ⌝ }
+    ensures { λ r. ⌜ Total (slot (given (now (s .entry)) at len (now (kept .entry)) (now (map .entry)) (now (requested .entry)))) m r ⌝ }
+{
+    let mut lengths = [0usize; 1024];
+    measure(s, at, len, kept, map, requested, flags, &mut lengths, m);
+    place_tables(
+        s,
+        at,
+        len,
+        kept,
+        map,
+        requested,
+        flags,
+        others,
+        &lengths,
+        ends,
+        m,
+    )
+}
+
+// How many selector records have a table, and the length of the whole subtable.
+pub struct Plan {
+    pub count: usize,
+    pub total: usize,
+}
+
+// Finds where each of the 2n tables stands.
+fn plan_tables(
+    s: &[u8],
+    at: usize,
+    len: usize,
+    kept: &[u32],
+    map: &[u16],
+    requested: &[u16],
+    ends: &mut [usize],
+    n: usize,
+) -> Plan
+    requires { ⌜ Readable (now s) at len (now kept) (now requested) ⌝ }
+    requires { ⌜ (n ≡ be 4 (now s) (at + 6)) × (1024 ≤ length (now ends)) ⌝ }
+    ensures { λ r. ⌜ Planned (given (now (s .entry)) at len (now (kept .entry)) (now (map .entry)) (now (requested .entry))) n (now (ends .exit)) (r .count) (r .total) ⌝ }
+{
+    let mut flags = [0u8; 131072];
+    let mut others = [0u8; 131072];
+    let tail = lay_out(
+        s,
+        at,
+        len,
+        kept,
+        map,
+        requested,
+        &mut flags,
+        &mut others,
+        ends,
+        2 * n,
+    );
+    let count = selector_records::count_records(ends, n);
+    Plan {
+        count: count,
+        total: 10 + 11 * count + tail,
+    }
+}
+
+// What becomes of the subtable of `len` bytes at `at`.
+pub fn size(
+    s: &[u8],
+    at: usize,
+    len: usize,
+    kept: &[u32],
+    map: &[u16],
+    requested: &[u16],
+) -> Outcome
+    requires { ⌜ Readable (now s) at len (now kept) (now requested) ⌝ }
+    ensures { λ r. ⌜ r ≡ outcome (given (now (s .entry)) at len (now (kept .entry)) (now (map .entry)) (now (requested .entry))) ⌝ }
+{
+    if refuses(s, at, len, kept, map, requested) {
+        return Outcome::Refused8;
+    }
+    let mut ends = [0usize; 1024];
+    let n = number::u32_at(s, at + 6) as usize;
+    let plan = plan_tables(s, at, len, kept, map, requested, &mut ends, n);
+    let count = plan.count;
+    if count == 0 {
+        return Outcome::Empty;
+    }
+    Outcome::Length(plan.total)
+}
+
+// Writes header, selector records and tables, planned before.
+fn write_planned(
+    out: &mut [u8],
+    place: usize,
+    s: &[u8],
+    at: usize,
+    len: usize,
+    kept: &[u32],
+    map: &[u16],
+    requested: &[u16],
+    ends: &[usize],
+    n: usize,
+    count: usize,
+    total: usize,
+)
+    requires { ⌜ Readable (now s) at len (now kept) (now requested) ⌝ }
+    requires { ⌜ Planned (given (now s) at len (now kept) (now map) (now requested)) n (now ends) count total ⌝ }
+    requires { ⌜ place + total ≤ length (now out) ⌝ }
+    ensures { λ _. ⌜ now (out .exit) ≡ sets (now (out .entry)) place (format14 (rows (given (now (s .entry)) at len (now (kept .entry)) (now (map .entry)) (now (requested .entry))))) ⌝ }
+{
+    let mut flags = [0u8; 131072];
+    selector_records::put_header(out, place, total as u32, count as u32);
+    selector_records::copy_records(out, place + 10, s, at, total, ends, n);
+    copy_var_selector_record_uvs_tables(
+        out,
+        place + total,
+        s,
+        at,
+        len,
+        kept,
+        map,
+        requested,
+        &mut flags,
+        ends,
+        2 * n,
+    );
+}
+
+// Writes the new subtable at `place`.
+pub fn serialize(
+    out: &mut [u8],
+    place: usize,
+    s: &[u8],
+    at: usize,
+    len: usize,
+    kept: &[u32],
+    map: &[u16],
+    requested: &[u16],
+)
+    requires { ⌜ Readable (now s) at len (now kept) (now requested) ⌝ }
+    requires { ⌜ place + lengthOf (rows (given (now s) at len (now kept) (now map) (now requested))) ≤ length (now out) ⌝ }
+    ensures { λ _. ⌜ now (out .exit) ≡ sets (now (out .entry)) place (format14 (rows (given (now (s .entry)) at len (now (kept .entry)) (now (map .entry)) (now (requested .entry))))) ⌝ }
+{
+    let mut ends = [0usize; 1024];
+    let n = number::u32_at(s, at + 6) as usize;
+    let plan = plan_tables(s, at, len, kept, map, requested, &mut ends, n);
+    let count = plan.count;
+    let total = plan.total;
+    write_planned(
+        out,
+        place,
+        s,
+        at,
+        len,
+        kept,
+        map,
+        requested,
+        &ends,
+        n,
+        count,
+        total,
+    );
+}

@@ -1,0 +1,2 @@
+pub mod ByNumberLaws
+pub mod ShapeLaws

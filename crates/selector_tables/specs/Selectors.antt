@@ -1,0 +1,60 @@
+-- The selector records of the source's format 14 subtable, which of them are kept, and their new tables (docs/01-rules.md, "Format 14").
+use Prim.Native.Nat.{ℕ, _+_, _*_}
+use mathlib.Core.List.{List, []}
+use mathlib.Core.Bool.{Bool}
+use Rattle.laws.specs.Choice.{pick, both}
+use Rattle.marks.specs.Marks.{holds}
+use Rattle.number.specs.BigEndian.{be}
+use Rattle.uvs.specs.Tables.{countsDefault, countsNonDefault}
+use Rattle.uvs.specs.Default.{newDefault}
+use Rattle.uvs.specs.NonDefault.{newNonDefault, badMapping}
+
+-- what a subtable is worked out from: the source, the subtable's start and length in it, and the lists that are lent
+pub record Given : Type 0 where
+  pub source : List ℕ
+  pub start : ℕ
+  pub size : ℕ
+  pub kept : List ℕ
+  pub glyphs : List ℕ
+  pub requested : List ℕ
+
+abbrev pub given : List ℕ → ℕ → ℕ → List ℕ → List ℕ → List ℕ → Given
+given xs at len kept map requested = record { source = xs; start = at; size = len; kept = kept; glyphs = map; requested = requested }
+
+-- ---- selector record k of the source: eleven bytes each, from the tenth on
+
+abbrev pub selectorRecords : Given → ℕ
+selectorRecords g = be 4 (g .source) (g .start + 6)
+
+abbrev pub varSelector : Given → ℕ → ℕ
+varSelector g k = be 3 (g .source) (g .start + 10 + 11 * k)
+
+abbrev pub defaultOffset : Given → ℕ → ℕ
+defaultOffset g k = be 4 (g .source) (g .start + 10 + 11 * k + 3)
+
+abbrev pub nonDefaultOffset : Given → ℕ → ℕ
+nonDefaultOffset g k = be 4 (g .source) (g .start + 10 + 11 * k + 7)
+
+unfoldable pub keepsSelector : Given → ℕ → Bool
+keepsSelector g k = holds (g .kept) (varSelector g k)
+
+-- ---- its new tables; a table that does not count gives no new one, which the empty list stands for
+
+unfoldable pub defaultTable : Given → ℕ → List ℕ
+defaultTable g k =
+    pick (countsDefault (g .source) (g .start) (g .size) (defaultOffset g k))
+    (newDefault (g .source) (g .start + defaultOffset g k) (g .kept)) []
+
+unfoldable pub nonDefaultTable : Given → ℕ → List ℕ
+nonDefaultTable g k =
+    pick (countsNonDefault (g .source) (g .start) (g .size) (nonDefaultOffset g k))
+    (newNonDefault (g .source) (g .start + nonDefaultOffset g k) (g .kept) (g .glyphs) (g .requested)) []
+
+-- refusal 8 for it: its non-default table counts and has a mapping to be kept that names a missing glyph
+unfoldable pub badRecord : Given → ℕ → Bool
+badRecord g k =
+    both (countsNonDefault (g .source) (g .start) (g .size) (nonDefaultOffset g k))
+    (badMapping (g .source) (g .start + nonDefaultOffset g k) (g .kept) (g .glyphs) (g .requested))
+
+abbrev pub badKept : Given → ℕ → Bool
+badKept g k = both (keepsSelector g k) (badRecord g k)

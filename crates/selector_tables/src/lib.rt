@@ -1,0 +1,142 @@
+// The new tables of the source's selector records, by number: how long each is, whether two are equal, and their bytes.
+ghost use mathlib.Core.Path.{_≡_};
+ghost use Prim.Native.Nat.{_+_, _*_, _%_, _<_, _≤_};
+ghost use lib.ListN.{length};
+ghost use lib.Seq.{sets};
+ghost use Rattle.laws.specs.Select.{eqList};
+ghost use Rattle.number.specs.BigEndian.{be};
+ghost use Rattle.uvs.specs.Tables.{counts};
+ghost use Rattle.selector_tables.specs.Selectors.{given, badKept};
+ghost use Rattle.selector_tables.specs.ByNumber.{slot, Source, Readable, Numbered, Size, Both};
+
+// Whether the source's table t, `off` from the start of the subtable, counts.
+fn counts_table(s: &[u8], at: usize, len: usize, off: u32, t: usize) -> bool
+    requires { ⌜ at + len ≤ length (now s) ⌝ }
+    ensures { λ r. ⌜ r ≡ counts (4 + t % 2) (now (s .entry)) at len off ⌝ }
+{
+    if t % 2 == 0 {
+        return uvs::counts_default(s, at, len, off);
+    }
+    uvs::counts_non_default(s, at, len, off)
+}
+
+// The offset of the source's table t; 0 if its selector is not kept or it does not count.
+fn source_table(s: &[u8], at: usize, len: usize, kept: &[u32], requested: &[u16], t: usize) -> usize
+    requires { ⌜ Readable (now s) at len (now kept) (now requested) ⌝ }
+    requires { ⌜ t < 2 * be 4 (now s) (at + 6) ⌝ }
+    ensures { λ r. ⌜ Source (now (s .entry)) at len (now (kept .entry)) t r ⌝ }
+{
+    let record = at + 10 + 11 * (t / 2);
+    if marks::member(kept, number::u24_at(s, record)) {
+        let off = number::u32_at(s, record + 3 + 4 * (t % 2));
+        if counts_table(s, at, len, off, t) {
+            return off as usize;
+        }
+    }
+    0
+}
+
+// How long new table t is: 0 where there is none. The flags are work room.
+pub fn table_size(
+    s: &[u8],
+    at: usize,
+    len: usize,
+    kept: &[u32],
+    map: &[u16],
+    requested: &[u16],
+    flags: &mut [u8],
+    t: usize,
+) -> usize
+    requires { ⌜ Readable (now s) at len (now kept) (now requested) ⌝ }
+    requires { ⌜ Numbered (now s) at (now kept) (now flags) t ⌝ }
+    ensures { λ r. ⌜ Size (given (now (s .entry)) at len (now (kept .entry)) (now (map .entry)) (now (requested .entry))) t r ⌝ }
+{
+    let off = source_table(s, at, len, kept, requested, t);
+    if off == 0 {
+        return 0;
+    }
+    if t % 2 == 0 {
+        return default_uvs::default_size(s, at + off, kept, flags);
+    }
+    non_default_uvs::non_default_size(s, at + off, kept, map, requested)
+}
+
+// Whether the new tables i and j, both there, are equal. A default table never equals a non-default one. The flags are work room.
+pub fn same_table(
+    s: &[u8],
+    at: usize,
+    len: usize,
+    kept: &[u32],
+    map: &[u16],
+    requested: &[u16],
+    flags: &mut [u8],
+    others: &mut [u8],
+    i: usize,
+    j: usize,
+) -> bool
+    requires { ⌜ Readable (now s) at len (now kept) (now requested) ⌝ }
+    requires { ⌜ Numbered (now s) at (now kept) (now flags) i ⌝ }
+    requires { ⌜ Numbered (now s) at (now kept) (now others) j ⌝ }
+    requires { ⌜ Both (given (now s) at len (now kept) (now map) (now requested)) i j ⌝ }
+    ensures { λ r. ⌜ r ≡ eqList (slot (given (now (s .entry)) at len (now (kept .entry)) (now (map .entry)) (now (requested .entry))) i) (slot (given (now (s .entry)) at len (now (kept .entry)) (now (map .entry)) (now (requested .entry))) j) ⌝ }
+{
+    if i % 2 != j % 2 {
+        return false;
+    }
+    let p = source_table(s, at, len, kept, requested, i);
+    let q = source_table(s, at, len, kept, requested, j);
+    if i % 2 == 0 {
+        return same_uvs::same_default(s, at + p, at + q, kept, flags, others);
+    }
+    same_uvs::same_non_default(s, at + p, at + q, kept, map, requested)
+}
+
+// Writes new table t; nothing where there is none.
+pub fn copy_table(
+    out: &mut [u8],
+    to: usize,
+    s: &[u8],
+    at: usize,
+    len: usize,
+    kept: &[u32],
+    map: &[u16],
+    requested: &[u16],
+    flags: &mut [u8],
+    t: usize,
+)
+    requires { ⌜ Readable (now s) at len (now kept) (now requested) ⌝ }
+    requires { ⌜ Numbered (now s) at (now kept) (now flags) t ⌝ }
+    requires { ⌜ to + length (slot (given (now s) at len (now kept) (now map) (now requested)) t) ≤ length (now out) ⌝ }
+    ensures { λ _. ⌜ now (out .exit) ≡ sets (now (out .entry)) to (slot (given (now (s .entry)) at len (now (kept .entry)) (now (map .entry)) (now (requested .entry))) t) ⌝ }
+{
+    let off = source_table(s, at, len, kept, requested, t);
+    if off == 0 {
+        return;
+    }
+    if t % 2 == 0 {
+        default_uvs::copy_default_uvs(out, to, s, at + off, kept, flags);
+        return;
+    }
+    non_default_uvs::copy_non_default_uvs(out, to, s, at + off, kept, map, requested);
+}
+
+// Refusal 8 for selector record k: it is kept, and its non-default table names a missing glyph.
+pub fn bad_record(
+    s: &[u8],
+    at: usize,
+    len: usize,
+    kept: &[u32],
+    map: &[u16],
+    requested: &[u16],
+    k: usize,
+) -> bool
+    requires { ⌜ Readable (now s) at len (now kept) (now requested) ⌝ }
+    requires { ⌜ k < be 4 (now s) (at + 6) ⌝ }
+    ensures { λ r. ⌜ r ≡ badKept (given (now (s .entry)) at len (now (kept .entry)) (now (map .entry)) (now (requested .entry))) k ⌝ }
+{
+    let off = source_table(s, at, len, kept, requested, 2 * k + 1);
+    if off == 0 {
+        return false;
+    }
+    non_default_uvs::bad_mapping(s, at + off, kept, map, requested)
+}
