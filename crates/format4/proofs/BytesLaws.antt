@@ -18,7 +18,8 @@ use Rattle.ranges.specs.declared.Segment.{Segment}
 use Rattle.ranges.specs.Steps.{entriesOf, entries}
 use Rattle.format4.specs.Format4.{points, segmentsOf, arrayFrom, arrayOf, glyphOf, offsetsFrom, lengthWith, header, endOf, startOf, deltaOf, numbers, format4}
 use Rattle.format4.proofs.Format4Laws.{length-offsets, length-arrayOf}
-use Rattle.format4.proofs.LowLaws.{LowPairs, LowSegment, LowSegments, segments-low, column-low, array-low}
+use Rattle.format4.proofs.WalkLaws.{All}
+use Rattle.format4.proofs.LowLaws.{LowPair, LowSegment, LowSegments, segments-low, column-low, array-low}
 
 -- ---- the numbers of a subtable by their places
 
@@ -122,7 +123,7 @@ numbers-read language ss array xs at l s =
     }
 
 -- the definition's bytes, wherever they stand
-pub format4-reads : (language : ℕ) (ps : List Pair) (xs : List ℕ) (at : ℕ) → LowPairs ps → lengthWith (length (segmentsOf ps)) (length (arrayOf ps)) ≤ 65535
+pub format4-reads : (language : ℕ) (ps : List Pair) (xs : List ℕ) (at : ℕ) → All LowPair ps → lengthWith (length (segmentsOf ps)) (length (arrayOf ps)) ≤ 65535
     → Stands xs at (format4 language ps) → Reads4 xs at (segmentsOf ps) (arrayOf ps)
 unfolding format4
 format4-reads language ps xs at l h s =

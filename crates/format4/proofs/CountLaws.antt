@@ -22,7 +22,8 @@ use Rattle.format4.specs.Format4.{segmentsOf}
 use Rattle.format4.specs.declared.Size.{Size}
 use Rattle.format4.specs.declared.Size.the-variants.{Empty, TooLong, Fits}
 use Rattle.format4.specs.Size.{Columns, Below, Counts, counter, counted, countOf, lengthOf, sizeOf}
-use Rattle.format4.proofs.CutLaws.{segments-cut, segments-some}
+use Rattle.format4.proofs.CutLaws.{segments-some}
+use Rattle.format4.proofs.WalkLaws.{segments-cut}
 use Rattle.format4.proofs.Format4Laws.{length-arrayOf}
 
 pub counted-none : (n : RangeCounter) → counted n [] ≡ n

@@ -1,3 +1,4 @@
+pub mod WalkLaws
 pub mod CutLaws
 pub mod Format4Laws
 pub mod CountLaws

@@ -28,17 +28,9 @@ module _ (cs gs : List ℕ) (n : RangeCounter) (k : Columns cs gs) (t : Told (pa
       let e = length-pairs cs gs (k .even) in
       let z : length (pairs cs gs) ≡ length gs - 0 = omega arith in
       let short = t .short in
-      record {
-        ends = omega arith;
-        starts = omega arith;
-        deltas = omega arith;
-        offsets = omega arith;
-        array = omega arith;
-        near = omega arith;
-        fed = subst (λ (m : ℕ). Fed m (segmentsOf (pairs cs gs))) z (segments-fed (pairs cs gs));
-        next = omega arith;
-        most = omega (arith, k .even, k .few);
-      }
+      let even = k .even in
+      let few = k .few in
+      record { places = omega arith; fed = subst (λ (m : ℕ). Fed m (segmentsOf (pairs cs gs))) z (segments-fed (pairs cs gs)) }
 
   pub told-is : (language : ℕ) (o : List ℕ)
       → columnsAt gs (headed o at language (n .segments) (n .glyphs)) (placesAt at (n .segments)) 0 (segmentsOf (pairs cs gs)) ≡ sets o at (format4 language (pairs cs gs))

@@ -18,7 +18,7 @@ use Rattle.ranges.proofs.StepsLaws.{entries-append, walk-step, walk-end}
 use Rattle.format4.specs.Format4.{points, segmentsOf}
 use Rattle.format4.specs.Size.{Columns}
 use Rattle.format4.specs.Share.{Fed}
-use Rattle.format4.proofs.CutLaws.{segments-cut}
+use Rattle.format4.proofs.WalkLaws.{segments-cut}
 use Rattle.format4_writer.specs.declared.RangeWriter.{RangeWriter}
 use Rattle.format4_writer.specs.Places.{offsetAt, partOf, nextOf, putThree, putGlyphs, putOne, putAll, movedBy, Room, columnsAt, Apart}
 use Rattle.format4_writer.proofs.PlacesLaws.{put-columns}
@@ -31,34 +31,17 @@ fed-front (x ∷ a) b k f = (f .0, f .1, fed-front a b (k - points x) (f .2))
 
 pub room-front : {w : RangeWriter} {k l : ℕ} (a b : List Segment) → Room w (a ++ b) k l → Room w a k l
 room-front {w} {k} a b r =
+    let p = r .places in
     let e = length-append a b in
     let f = entries-append a b in
-    record {
-      ends = omega (arith, r .ends);
-      starts = omega (arith, r .starts);
-      deltas = omega (arith, r .deltas);
-      offsets = omega (arith, r .offsets);
-      array = omega (arith, r .array);
-      near = omega (arith, r .near);
-      fed = fed-front a b (k - w .next) (r .fed);
-      next = omega (arith, r .next);
-      most = omega (arith, r .most);
-    }
+    record { places = omega arith; fed = fed-front a b (k - w .next) (r .fed) }
 
 pub room-next : {w : RangeWriter} {k l : ℕ} (x : Segment) (xs : List Segment) → Room w (x ∷ xs) k l → Room (nextOf w x) xs k l
 room-next {w} {k} x xs r =
+    let p = r .places in
+    let q = r .fed .1 in
     let left : k - w .next - points x ≡ k - (w .next + points x) = omega arith in
-    record {
-      ends = omega (arith, r .ends);
-      starts = omega (arith, r .starts);
-      deltas = omega (arith, r .deltas);
-      offsets = omega (arith, r .offsets);
-      array = omega (arith, r .array);
-      near = omega (arith, r .near);
-      fed = subst (λ (n : ℕ). Fed n xs) left (r .fed .2);
-      next = omega (arith, r .next, r .most, r .fed .1);
-      most = omega (arith, r .most);
-    }
+    record { places = omega arith; fed = subst (λ (n : ℕ). Fed n xs) left (r .fed .2) }
 
 room-back : {w : RangeWriter} {k l : ℕ} (a b : List Segment) → Room w (a ++ b) k l → Room (movedBy w a) b k l
 unfolding movedBy
