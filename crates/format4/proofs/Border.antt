@@ -1,5 +1,5 @@
 -- 01's case on the border: 8,188 lone points with deltas, 0xFFFF not listed, give 65,528 bytes; one more is too long.
-use Prim.Native.Nat.{ℕ, zero, suc, _+_}
+use Prim.Native.Nat.{ℕ, zero, suc}
 use mathlib.Core.Path.{_≡_, refl}
 use mathlib.Core.List.{List, [], _∷_}
 use Rattle.laws.specs.Lists.{Pair}

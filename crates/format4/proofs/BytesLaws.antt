@@ -1,25 +1,22 @@
 -- What is read of a subtable's bytes, wherever they stand: the header's counts, each segment's numbers and the glyph array.
-use Prim.Native.Nat.{ℕ, zero, suc, _+_, _-_, _*_, _≤_, _<_}
+use Prim.Native.Nat.{ℕ, zero, suc, _+_, _*_, _≤_, _<_}
 use mathlib.Core.Path.{_≡_, refl, sym, _∙_, ap}
 use mathlib.Core.List.{List, [], _∷_, _++_, map}
-use mathlib.Core.Bool.{Bool, true, false}
-use native.Mathlib.Nat.{add-assoc}
 use native.Mathlib.Omega.{arith}
 use lib.Dec.{eqb}
-use lib.ListN.{length, getD, take, drop, length-map, length-append, List·getD-append}
+use lib.ListN.{length, getD, length-map, length-append, List·getD-append}
 use lib.Seq.{getD-append-add}
-use Rattle.laws.specs.Choice.{pick}
 use Rattle.laws.specs.Lists.{Pair}
-use Rattle.laws.proofs.ChoiceLaws.{by-pick, lt-or-le}
+use Rattle.laws.proofs.ChoiceLaws.{by-pick}
 use Rattle.number.specs.BigEndian.{be}
 use Rattle.number.specs.Row.{encs}
 use Rattle.number.proofs.StandsLaws.{Stands, be-row-fits}
 use Rattle.ranges.specs.declared.Segment.{Segment}
 use Rattle.ranges.specs.Steps.{entriesOf, entries}
-use Rattle.format4.specs.Format4.{points, segmentsOf, arrayFrom, arrayOf, glyphOf, offsetsFrom, lengthWith, header, endOf, startOf, deltaOf, numbers, format4}
+use Rattle.format4.specs.Format4.{segmentsOf, arrayOf, offsetsFrom, lengthWith, header, endOf, startOf, deltaOf, numbers, format4}
 use Rattle.format4.proofs.Format4Laws.{length-offsets, length-arrayOf}
 use Rattle.format4.proofs.WalkLaws.{All}
-use Rattle.format4.proofs.LowLaws.{LowPair, LowSegment, LowSegments, segments-low, column-low, array-low}
+use Rattle.format4.proofs.LowLaws.{LowPair, LowSegments, segments-low, column-low, array-low}
 
 -- ---- the numbers of a subtable by their places
 
@@ -108,7 +105,7 @@ numbers-read language ss array xs at l s =
     let n = length-numbers language ss array in
     let short = l .short in
     let read : (k p v : ℕ) → k < length (numbers language ss array) → getD (numbers language ss array) k 0 ≡ v → v < 65536 → at + 2 * k ≡ p → be 2 xs p ≡ v =
-        λ k p v h e b q. ap (be 2 xs) (sym q) ∙ be-row-fits 2 (numbers language ss array) s k h (rw e b) ∙ e in
+    λ k p v h e b q. ap (be 2 xs) (sym q) ∙ be-row-fits 2 (numbers language ss array) s k h (rw e b) ∙ e in
     record {
       format = read 0 at 4 (omega arith) (unfold header in refl) (omega arith) (omega arith);
       long = read 1 (at + 2) (lengthWith (length ss) (length array)) (omega arith) (unfold header in refl) (omega arith) (omega arith);

@@ -1,6 +1,6 @@
 -- Counting segment by segment: the loop's invariant, and a rule for each way on.
 use Prim.Native.Nat.{ℕ, _+_, _*_, _≤_, _<_}
-use mathlib.Core.Path.{_≡_, refl, sym, ap, ap₂, _∙_}
+use mathlib.Core.Path.{_≡_, refl, sym, ap, _∙_}
 use mathlib.Core.List.{List, [], _∷_, _++_}
 use mathlib.Core.Bool.{Bool, true, false}
 use native.Mathlib.Nat.{add-assoc, add-zero, zero-add}
@@ -21,12 +21,12 @@ use Rattle.format4.specs.declared.RangeCounter.{RangeCounter}
 use Rattle.format4.specs.Format4.{segmentsOf}
 use Rattle.format4.specs.declared.Size.{Size}
 use Rattle.format4.specs.declared.Size.the-variants.{Empty, TooLong, Fits}
-use Rattle.format4.specs.Size.{Columns, Below, Counts, counter, counted, countOf, lengthOf, sizeOf}
+use Rattle.format4.specs.Size.{Columns, Counts, counter, counted, countOf, lengthOf, sizeOf}
 use Rattle.format4.proofs.CutLaws.{segments-some}
 use Rattle.format4.proofs.WalkLaws.{segments-cut}
 use Rattle.format4.proofs.Format4Laws.{length-arrayOf}
 
-pub counted-none : (n : RangeCounter) → counted n [] ≡ n
+counted-none : (n : RangeCounter) → counted n [] ≡ n
 counted-none n = simp add-zero
 
 counted-append : (n : RangeCounter) (a b : List Segment) → counted n (a ++ b) ≡ counted (counted n a) b
@@ -75,8 +75,6 @@ module _ (cs gs : List ℕ) (s : RangeState) (n : RangeCounter) (i : ℕ) (f : F
     below = record { segments = rw (u .0) (omega (arith, l .segments, l .within, k .few, t .1 .0)); glyphs = omega (arith, l .glyphs, l .within, k .few, t .1 .1, u .1) };
   }
 
-pub ruleset counting = (counting-start, counting-on, counting-open, counting-closed)
-
 -- ---- the size
 
 size-some : (cs gs : List ℕ) → length cs ≡ length gs → (length cs ≡ 0 → ⊥)
@@ -101,8 +99,6 @@ module _ (cs gs : List ℕ) (n : RangeCounter) (l : ℕ) (k : Columns cs gs) (h 
 
   pub size-long : 65535 < l → TooLong ≡ sizeOf (pairs cs gs)
   size-long b = rw (lt-leb (lengthOf (countOf (pairs cs gs))) 65535 (omega (arith, same))) at (size-some cs gs (k .even) h)
-
-pub ruleset sizing = (size-empty, size-fits, size-long)
 
 -- what a size that fits tells
 pub record Told (ps : List Pair) (n : RangeCounter) : Type 0 where

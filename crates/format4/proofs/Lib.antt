@@ -5,3 +5,4 @@ pub mod CountLaws
 pub mod LowLaws
 pub mod Border
 pub mod BytesLaws
+pub mod SegmentLaws

@@ -1,12 +1,11 @@
 -- Every number of a segment fits 16 bits where the pairs' numbers do.
-use Prim.Native.Nat.{ℕ, zero, suc, _+_, _-_, _*_, _%_, _≤_, _<_}
-use mathlib.Core.Path.{_≡_, refl, sym, _∙_}
+use Prim.Native.Nat.{ℕ, zero, suc, _<_}
+use mathlib.Core.Path.{_≡_, refl}
 use mathlib.Core.List.{List, [], _∷_, _++_, map}
-use mathlib.Core.Bool.{Bool, true, false, not}
+use mathlib.Core.Bool.{Bool, true, false}
 use native.Mathlib.Omega.{arith}
 use lib.Dec.{eqb}
-use lib.ListN.{length, getD, take, drop, List·getD-eq-default}
-use Rattle.laws.specs.Choice.{pick}
+use lib.ListN.{getD, take, drop}
 use Rattle.laws.specs.Lists.{Pair, pairs}
 use Rattle.laws.proofs.ChoiceLaws.{by-pick}
 use Rattle.ranges.specs.declared.Segment.{Segment}

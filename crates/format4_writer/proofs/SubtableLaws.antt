@@ -1,6 +1,6 @@
 -- What the size that was found says of the places, and that header and columns are the definition's bytes.
-use Prim.Native.Nat.{ℕ, _+_, _-_, _*_, _≤_, _<_}
-use mathlib.Core.Path.{_≡_, refl, sym, _∙_, ap, subst}
+use Prim.Native.Nat.{ℕ, _+_, _-_, _≤_}
+use mathlib.Core.Path.{_≡_, _∙_, ap, subst}
 use mathlib.Core.List.{List}
 use native.Mathlib.Omega.{arith}
 use lib.ListN.{length}
@@ -8,9 +8,9 @@ use lib.Seq.{sets}
 use Rattle.laws.specs.Lists.{pairs}
 use Rattle.ranges.specs.Steps.{entries}
 use Rattle.format4.specs.declared.RangeCounter.{RangeCounter}
-use Rattle.format4.specs.Format4.{segmentsOf, arrayOf, format4}
+use Rattle.format4.specs.Format4.{segmentsOf, format4}
 use Rattle.format4.specs.Share.{Fed}
-use Rattle.format4.specs.Size.{Columns, lengthOf, countOf}
+use Rattle.format4.specs.Size.{Columns, lengthOf}
 use Rattle.format4.proofs.CutLaws.{segments-fed}
 use Rattle.format4.proofs.Format4Laws.{length-arrayOf, length-pairs, glyphs-pairs}
 use Rattle.format4.proofs.CountLaws.{Told}

@@ -1,11 +1,11 @@
 -- The walk that writes: the loop's invariant, and a rule for each way on.
-use Prim.Native.Nat.{ℕ, suc, _+_, _-_, _*_, _≤_, _<_}
+use Prim.Native.Nat.{ℕ, _+_, _-_, _≤_, _<_}
 use mathlib.Core.Path.{_≡_, refl, sym, _∙_, ap, ap₂, subst}
 use mathlib.Core.List.{List, [], _∷_, _++_}
 use mathlib.Core.Bool.{Bool, true, false}
 use native.Mathlib.Omega.{arith}
 use lib.ListN.{length, getD, drop, length-append}
-use lib.Seq.{sets, length-sets}
+use lib.Seq.{length-sets}
 use Rattle.laws.specs.Lists.{pairs}
 use Rattle.number.specs.Row.{encs}
 use Rattle.number.proofs.BigEndianLaws.{length-put}
@@ -13,14 +13,14 @@ use Rattle.ranges.specs.declared.Segment.{Segment}
 use Rattle.ranges.specs.declared.RangeState.{RangeState}
 use Rattle.ranges.specs.declared.Absorbed.{Absorbed}
 use Rattle.ranges.specs.declared.Finished.{Finished}
-use Rattle.ranges.specs.Steps.{seg, idle, step, finish, toList, closing, cutFrom, entriesOf, entries}
+use Rattle.ranges.specs.Steps.{seg, idle, step, finish, toList, closing, cutFrom}
 use Rattle.ranges.proofs.StepsLaws.{entries-append, walk-step, walk-end}
 use Rattle.format4.specs.Format4.{points, segmentsOf}
 use Rattle.format4.specs.Size.{Columns}
 use Rattle.format4.specs.Share.{Fed}
 use Rattle.format4.proofs.WalkLaws.{segments-cut}
 use Rattle.format4_writer.specs.declared.RangeWriter.{RangeWriter}
-use Rattle.format4_writer.specs.Places.{offsetAt, partOf, nextOf, putThree, putGlyphs, putOne, putAll, movedBy, Room, columnsAt, Apart}
+use Rattle.format4_writer.specs.Places.{partOf, nextOf, putOne, putAll, movedBy, Room, columnsAt, Apart}
 use Rattle.format4_writer.proofs.PlacesLaws.{put-columns}
 
 -- ---- room
