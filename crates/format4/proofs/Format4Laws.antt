@@ -14,6 +14,7 @@ use Rattle.ranges.specs.declared.Segment.{Segment}
 use Rattle.ranges.specs.Steps.{entriesOf, entries}
 use Rattle.format4.specs.Format4.{points, segmentsOf, arrayFrom, arrayOf, glyphOf, offsetsFrom, lengthWith, header, endOf, startOf, deltaOf, numbers, format4}
 use Rattle.format4.specs.Share.{Fed}
+use Rattle.format4.proofs.WalkLaws.{array-cut}
 use Rattle.format4.proofs.CutLaws.{segments-fed, entries-fed, segments-few}
 
 pub length-offsets : (before : ℕ) (ss : List Segment) → length (offsetsFrom before ss) ≡ length ss
@@ -40,7 +41,7 @@ length-array gs (x ∷ xs) f =
     rw (← array-step gs x xs, length-append (take (entriesOf x) gs) (arrayFrom (drop n gs) xs), length-take-le (entriesOf x) gs (f .0), length-array (drop n gs) xs (rw (length-drop n gs) (f .2)))
 
 pub length-arrayOf : (ps : List Pair) → length (arrayOf ps) ≡ entries (segmentsOf ps)
-length-arrayOf ps = length-array (map glyphOf ps) (segmentsOf ps) (rw (length-map ps glyphOf) (segments-fed ps))
+length-arrayOf ps = ap length (sym (array-cut ps)) ∙ length-array (map glyphOf ps) (segmentsOf ps) (rw (length-map ps glyphOf) (segments-fed ps))
 
 pub length-format4 : (language : ℕ) (ps : List Pair) → length (format4 language ps) ≡ lengthWith (length (segmentsOf ps)) (length (arrayOf ps))
 unfolding format4 header

@@ -13,7 +13,7 @@ use Rattle.ranges.specs.declared.Committed.{Committed}
 use Rattle.ranges.specs.declared.RangeState.{RangeState}
 use Rattle.ranges.specs.Steps.{seg, commit, toList, closing}
 use Rattle.format4.specs.Format4.{segmentsOf, arrayFrom, arrayOf, glyphOf, points}
-use Rattle.format4.proofs.WalkLaws.{commit-cases, All, Walk, segments-walk}
+use Rattle.format4.proofs.WalkLaws.{array-cut, commit-cases, All, Walk, segments-walk}
 
 abbrev pub LowPair : Pair → Type 0
 LowPair p = (p .0 < 65536) × (p .1 < 65536)
@@ -107,7 +107,7 @@ low-glyphs [] l = tt
 low-glyphs (p ∷ ps) l = (l .0 .1, low-glyphs ps (l .1))
 
 pub array-low : (ps : List Pair) → All LowPair ps → (k : ℕ) → getD (arrayOf ps) k 0 < 65536
-array-low ps l = low-getD (arrayOf ps) (low-array (map glyphOf ps) (segmentsOf ps) (low-glyphs ps l))
+array-low ps l = low-getD (arrayOf ps) (rw (array-cut ps) at (low-array (map glyphOf ps) (segmentsOf ps) (low-glyphs ps l)))
 
 -- ---- the pairs of two columns
 

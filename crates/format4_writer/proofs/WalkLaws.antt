@@ -2,7 +2,6 @@
 use Prim.Native.Nat.{ℕ, _+_, _-_, _≤_, _<_}
 use mathlib.Core.Path.{_≡_, refl, sym, _∙_, ap, ap₂, subst}
 use mathlib.Core.List.{List, [], _∷_, _++_}
-use mathlib.Core.Bool.{Bool, true, false}
 use native.Mathlib.Omega.{arith}
 use lib.ListN.{length, getD, drop, length-append}
 use lib.Seq.{length-sets}
@@ -13,7 +12,7 @@ use Rattle.ranges.specs.declared.Segment.{Segment}
 use Rattle.ranges.specs.declared.RangeState.{RangeState}
 use Rattle.ranges.specs.declared.Absorbed.{Absorbed}
 use Rattle.ranges.specs.declared.Finished.{Finished}
-use Rattle.ranges.specs.Steps.{seg, idle, step, finish, toList, closing, cutFrom}
+use Rattle.ranges.specs.Steps.{idle, step, finish, toList, closing, cutFrom}
 use Rattle.ranges.proofs.StepsLaws.{entries-append, walk-step, walk-end}
 use Rattle.format4.specs.Format4.{points, segmentsOf}
 use Rattle.format4.specs.Size.{Columns}
@@ -118,18 +117,14 @@ module _ (cs gs o₀ : List ℕ) (w₀ : RangeWriter) (s : RangeState) (o : List
     ending-room = left-room (toList (f .out)) _ end
 
     module _ (p : List ℕ) (v : RangeWriter) (t : (v ≡ movedBy w (toList (f .out))) × (p ≡ putAll gs o w (toList (f .out)))) where
-      pub ended : Left gs p v (closing (f .close)) (length o₀) whole
+      ended : Left gs p v (closing (f .close)) (length o₀) whole
       ended = left-next (toList (f .out)) (closing (f .close)) end (t .0) (t .1)
 
--- the closing segment, or none
-module _ (gs p : List ℕ) (v : RangeWriter) (b : Bool) (l : ℕ) (whole : List ℕ) (d : Left gs p v (closing b) l whole) where
-  pub close-room : b ≡ true → Room v (seg 65535 65535 1 ∷ []) (length gs) (length p)
-  close-room e = let t = rw e at d in rw (t .long) (t .room)
+      pub closing-room : Room v (closing (f .close)) (length gs) (length p)
+      closing-room = rw (ended .long) (ended .room)
 
-  pub close-yes : b ≡ true → putOne gs p v (seg 65535 65535 1) ≡ whole
-  unfolding putAll
-  close-yes e = let t = rw e at d in t .goes
+      pub ended-long : length p ≡ length o₀
+      ended-long = ended .long
 
-  pub close-no : b ≡ false → p ≡ whole
-  unfolding putAll
-  close-no e = let t = rw e at d in t .goes
+      pub ended-is : putAll gs p v (closing (f .close)) ≡ whole
+      ended-is = ended .goes
