@@ -14,6 +14,10 @@ use Rattle.number.proofs.StandsLaws.{Stands, be-row-fits}
 use Rattle.ranges.specs.declared.Segment.{Segment}
 use Rattle.ranges.specs.Steps.{entriesOf, entries}
 use Rattle.format4.specs.Format4.{segmentsOf, arrayOf, offsetsFrom, lengthWith, header, endOf, startOf, deltaOf, numbers, format4}
+use Rattle.format4.specs.declared.RangeCounter.{RangeCounter}
+use Rattle.format4.specs.declared.Size.the-variants.{Fits}
+use Rattle.format4.specs.Size.{sizeOf}
+use Rattle.format4.proofs.CountLaws.{fits-tells}
 use Rattle.format4.proofs.Format4Laws.{length-offsets, length-arrayOf}
 use Rattle.format4.proofs.WalkLaws.{All}
 use Rattle.format4.proofs.LowLaws.{LowPair, LowSegments, segments-low, column-low, array-low}
@@ -125,3 +129,9 @@ pub format4-reads : (language : ℕ) (ps : List Pair) (xs : List ℕ) (at : ℕ)
 unfolding format4
 format4-reads language ps xs at l h s =
     numbers-read language (segmentsOf ps) (arrayOf ps) xs at (record { segments = segments-low ps l; glyphs = array-low ps l; same = length-arrayOf ps; short = h }) s
+
+pub fits-reads : (language : ℕ) (ps : List Pair) (n : RangeCounter) (xs : List ℕ) (at : ℕ) → All LowPair ps → sizeOf ps ≡ Fits n → Stands xs at (format4 language ps)
+    → Reads4 xs at (segmentsOf ps) (arrayOf ps)
+fits-reads language ps n xs at l e =
+    let t = fits-tells ps n e in
+    format4-reads language ps xs at l (rw (t .is) at (t .short))

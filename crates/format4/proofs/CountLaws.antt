@@ -20,13 +20,13 @@ use Rattle.ranges.specs.declared.Finished.{Finished}
 use Rattle.ranges.specs.Steps.{idle, step, finish, toList, closing, cutFrom, entries}
 use Rattle.ranges.proofs.StepsLaws.{entries-append, sink-step, sink-end}
 use Rattle.format4.specs.declared.RangeCounter.{RangeCounter}
-use Rattle.format4.specs.Format4.{segmentsOf}
+use Rattle.format4.specs.Format4.{segmentsOf, format4}
 use Rattle.format4.specs.declared.Size.{Size}
 use Rattle.format4.specs.declared.Size.the-variants.{Empty, TooLong, Fits}
 use Rattle.format4.specs.Size.{Columns, Below, Adds, Counts, counter, counted, countOf, lengthOf, sizeOf}
 use Rattle.format4.proofs.CutLaws.{segments-some}
 use Rattle.format4.proofs.WalkLaws.{segments-cut}
-use Rattle.format4.proofs.Format4Laws.{length-arrayOf}
+use Rattle.format4.proofs.Format4Laws.{length-arrayOf, length-format4}
 
 counted-append : (n : RangeCounter) (a b : List Segment) → counted n (a ++ b) ≡ counted (counted n a) b
 counted-append n a b = simp (length-append, entries-append, add-assoc)
@@ -147,3 +147,6 @@ fits-tells (p ∷ ps) n e = go (leb (lengthOf m) 65535) refl e
         let z : n ≡ m = sym (ap counterOf r) in
         record { is = z; short = rw z (leb-true (lengthOf m) 65535 q); some = rw z (segments-some (p ∷ ps) (omega arith)) }
     go false q r = absurd (false-true (ap fitting r))
+
+pub length-told : (language : ℕ) (ps : List Pair) (n : RangeCounter) → Told ps n → length (format4 language ps) ≡ lengthOf n
+length-told language ps n t = length-format4 language ps ∙ ap lengthOf (sym (t .is))

@@ -1,4 +1,5 @@
--- What is written for each segment, where it goes, and the room that it wants.
+-- What is written for each segment, where it goes, and the room that it wants: the steps between write_format4 and its parts,
+-- which its own contract does not name.
 use Prim.Native.Nat.{ℕ, _+_, _-_, _*_, _^_, _≤_, _<_}
 use mathlib.Core.Path.{_≡_}
 use mathlib.Core.List.{List, [], _∷_, map}
