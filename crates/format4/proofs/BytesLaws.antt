@@ -1,24 +1,26 @@
 -- What is read of a subtable's bytes, wherever they stand: the header's counts, each segment's numbers and the glyph array.
-use Prim.Native.Nat.{ℕ, zero, suc, _+_, _-_, _*_, _≤_, _<_}
+use Prim.Native.Nat.{ℕ, zero, suc, _+_, _*_, _≤_, _<_}
 use mathlib.Core.Path.{_≡_, refl, sym, _∙_, ap}
 use mathlib.Core.List.{List, [], _∷_, _++_, map}
-use mathlib.Core.Bool.{Bool, true, false}
-use native.Mathlib.Nat.{add-assoc}
 use native.Mathlib.Omega.{arith}
 use lib.Dec.{eqb}
-use lib.ListN.{length, getD, take, drop, length-map, length-append, List·getD-append}
+use lib.ListN.{length, getD, length-map, length-append, List·getD-append}
 use lib.Seq.{getD-append-add}
-use Rattle.laws.specs.Choice.{pick}
 use Rattle.laws.specs.Lists.{Pair}
-use Rattle.laws.proofs.ChoiceLaws.{by-pick, lt-or-le}
+use Rattle.laws.proofs.ChoiceLaws.{by-pick}
 use Rattle.number.specs.BigEndian.{be}
 use Rattle.number.specs.Row.{encs}
 use Rattle.number.proofs.StandsLaws.{Stands, be-row-fits}
 use Rattle.ranges.specs.declared.Segment.{Segment}
 use Rattle.ranges.specs.Steps.{entriesOf, entries}
-use Rattle.format4.specs.Format4.{points, segmentsOf, arrayFrom, arrayOf, glyphOf, offsetsFrom, lengthWith, header, endOf, startOf, deltaOf, numbers, format4}
+use Rattle.format4.specs.Format4.{segmentsOf, arrayOf, offsetsFrom, lengthWith, header, endOf, startOf, deltaOf, numbers, format4}
+use Rattle.format4.specs.declared.RangeCounter.{RangeCounter}
+use Rattle.format4.specs.declared.Size.the-variants.{Fits}
+use Rattle.format4.specs.Size.{sizeOf}
+use Rattle.format4.proofs.CountLaws.{fits-tells}
 use Rattle.format4.proofs.Format4Laws.{length-offsets, length-arrayOf}
-use Rattle.format4.proofs.LowLaws.{LowPairs, LowSegment, LowSegments, segments-low, column-low, array-low}
+use Rattle.format4.proofs.WalkLaws.{All}
+use Rattle.format4.proofs.LowLaws.{LowPair, LowSegments, segments-low, column-low, array-low}
 
 -- ---- the numbers of a subtable by their places
 
@@ -122,8 +124,14 @@ numbers-read language ss array xs at l s =
     }
 
 -- the definition's bytes, wherever they stand
-pub format4-reads : (language : ℕ) (ps : List Pair) (xs : List ℕ) (at : ℕ) → LowPairs ps → lengthWith (length (segmentsOf ps)) (length (arrayOf ps)) ≤ 65535
+pub format4-reads : (language : ℕ) (ps : List Pair) (xs : List ℕ) (at : ℕ) → All LowPair ps → lengthWith (length (segmentsOf ps)) (length (arrayOf ps)) ≤ 65535
     → Stands xs at (format4 language ps) → Reads4 xs at (segmentsOf ps) (arrayOf ps)
 unfolding format4
 format4-reads language ps xs at l h s =
     numbers-read language (segmentsOf ps) (arrayOf ps) xs at (record { segments = segments-low ps l; glyphs = array-low ps l; same = length-arrayOf ps; short = h }) s
+
+pub fits-reads : (language : ℕ) (ps : List Pair) (n : RangeCounter) (xs : List ℕ) (at : ℕ) → All LowPair ps → sizeOf ps ≡ Fits n → Stands xs at (format4 language ps)
+    → Reads4 xs at (segmentsOf ps) (arrayOf ps)
+fits-reads language ps n xs at l e =
+    let t = fits-tells ps n e in
+    format4-reads language ps xs at l (rw (t .is) at (t .short))

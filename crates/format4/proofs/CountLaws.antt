@@ -1,6 +1,6 @@
 -- Counting segment by segment: the loop's invariant, and a rule for each way on.
 use Prim.Native.Nat.{ℕ, _+_, _*_, _≤_, _<_}
-use mathlib.Core.Path.{_≡_, refl, sym, ap, ap₂, _∙_}
+use mathlib.Core.Path.{_≡_, refl, sym, ap, _∙_}
 use mathlib.Core.List.{List, [], _∷_, _++_}
 use mathlib.Core.Bool.{Bool, true, false}
 use native.Mathlib.Nat.{add-assoc, add-zero, zero-add}
@@ -12,27 +12,48 @@ use Rattle.laws.specs.Choice.{pick}
 use lib.ListN.{length, getD, drop, length-append}
 use Rattle.laws.specs.Lists.{Pair, pairs}
 use Rattle.ranges.specs.declared.Segment.{Segment}
+use Rattle.ranges.specs.declared.Committed.{Committed}
+use Rattle.ranges.specs.declared.Committed.the-variants.{None, One, Two}
 use Rattle.ranges.specs.declared.RangeState.{RangeState}
 use Rattle.ranges.specs.declared.Absorbed.{Absorbed}
 use Rattle.ranges.specs.declared.Finished.{Finished}
-use Rattle.ranges.specs.Steps.{seg, entriesOf, idle, step, finish, toList, closing, cutFrom, entries}
+use Rattle.ranges.specs.Steps.{idle, step, finish, toList, closing, cutFrom, entries}
 use Rattle.ranges.proofs.StepsLaws.{entries-append, sink-step, sink-end}
 use Rattle.format4.specs.declared.RangeCounter.{RangeCounter}
-use Rattle.format4.specs.Format4.{segmentsOf}
+use Rattle.format4.specs.Format4.{segmentsOf, format4}
 use Rattle.format4.specs.declared.Size.{Size}
 use Rattle.format4.specs.declared.Size.the-variants.{Empty, TooLong, Fits}
-use Rattle.format4.specs.Size.{Columns, Below, Counts, counter, counted, countOf, lengthOf, sizeOf}
-use Rattle.format4.proofs.CutLaws.{segments-cut, segments-some}
-use Rattle.format4.proofs.Format4Laws.{length-arrayOf}
-
-pub counted-none : (n : RangeCounter) → counted n [] ≡ n
-counted-none n = simp add-zero
+use Rattle.format4.specs.Size.{Columns, Below, Adds, Counts, counter, counted, countOf, lengthOf, sizeOf}
+use Rattle.format4.proofs.CutLaws.{segments-some}
+use Rattle.format4.proofs.WalkLaws.{segments-cut}
+use Rattle.format4.proofs.Format4Laws.{length-arrayOf, length-format4}
 
 counted-append : (n : RangeCounter) (a b : List Segment) → counted n (a ++ b) ≡ counted (counted n a) b
 counted-append n a b = simp (length-append, entries-append, add-assoc)
 
 count-is : (ps : List Pair) → counted (counter 0 0) (cutFrom idle ps) ≡ countOf ps
 count-is ps = rw (segments-cut ps, zero-add (length (segmentsOf ps)), zero-add (entries (segmentsOf ps)), length-arrayOf ps)
+
+-- ---- the counter
+
+pub adds-none : (n : RangeCounter) → Adds n [] n
+adds-none n = record { is = simp add-zero; glyphs = omega arith }
+
+pub adds-then : (n m r : RangeCounter) (a b : List Segment) → Adds n a m → Adds m b r → Adds n (a ++ b) r
+adds-then n m r a b p q = record {
+  is = q .is ∙ ap (λ (c : RangeCounter). counted c b) (p .is) ∙ sym (counted-append n a b);
+  glyphs = omega (arith, p .glyphs, q .glyphs, length-append a b);
+}
+
+pub adds-below : (n m : RangeCounter) (x : Segment) → Below 100000000000 n → Adds n (x ∷ []) m → Below 1000000000000 m
+adds-below n m x h p = record { segments = rw (p .is) (omega (arith, h .segments)); glyphs = omega (arith, h .glyphs, p .glyphs) }
+
+few : (o : Committed) → length (toList o) ≤ 2
+few None = omega arith
+few (One a) = omega arith
+few (Two a b) = omega arith
+
+-- ---- the walk
 
 -- i pairs are walked; what is left, counted from here, gives the whole
 pub record Counting (cs gs : List ℕ) (s : RangeState) (n : RangeCounter) (i : ℕ) : Type 0 where
@@ -45,36 +66,32 @@ pub counting-start : (cs gs : List ℕ) (s : RangeState) (n : RangeCounter) → 
 counting-start cs gs s n e f = rw (e, f) (record { within = omega arith; segments = omega arith; glyphs = omega arith; left = count-is (pairs cs gs) })
 
 pub counting-on : (cs gs : List ℕ) (s : RangeState) (n : RangeCounter) (i : ℕ) (a : Absorbed) (m : RangeCounter)
-    → Columns cs gs → Counting cs gs s n i → i < length cs → a ≡ step s (getD cs i 0) (getD gs i 0)
-    → (m ≡ counted n (toList (a .out))) × ((m .segments ≤ n .segments + 2) × (m .glyphs ≤ n .glyphs + 131072)) → Counting cs gs (a .state) m (i + 1)
+    → Columns cs gs → Counting cs gs s n i → i < length cs → a ≡ step s (getD cs i 0) (getD gs i 0) → Adds n (toList (a .out)) m → Counting cs gs (a .state) m (i + 1)
 counting-on cs gs s n i a m k l h e t = record {
   within = omega arith;
-  segments = omega (arith, l .segments, t .1 .0);
-  glyphs = omega (arith, l .glyphs, t .1 .1);
-  left = sink-step counted counted-append s cs gs i a n m h (omega (arith, k .even)) e (t .0) ∙ l .left;
+  segments = rw (t .is) (omega (arith, l .segments, few (a .out)));
+  glyphs = omega (arith, l .glyphs, t .glyphs, few (a .out));
+  left = sink-step counted counted-append s cs gs i a n m h (omega (arith, k .even)) e (t .is) ∙ l .left;
 }
 
-module _ (cs gs : List ℕ) (s : RangeState) (n : RangeCounter) (i : ℕ) (f : Finished) (m : RangeCounter)
-    (k : Columns cs gs) (l : Counting cs gs s n i) (h : length cs ≤ i) (e : f ≡ finish s)
-    (t : (m ≡ counted n (toList (f .out))) × ((m .segments ≤ n .segments + 2) × (m .glyphs ≤ n .glyphs + 131072))) where
-  ended : counted m (closing (f .close)) ≡ countOf (pairs cs gs)
-  ended = sink-end counted counted-append s cs gs i f n m h e (t .0) ∙ l .left
+-- past the last pair
+pub ending-below : (cs gs : List ℕ) (s : RangeState) (n : RangeCounter) (i : ℕ) (o : Committed) (m : RangeCounter) → Columns cs gs → Counting cs gs s n i → Adds n (toList o) m
+    → Below 100000000000 m
+ending-below cs gs s n i o m k l t = record {
+  segments = rw (t .is) (omega (arith, l .segments, l .within, k .few, few o));
+  glyphs = omega (arith, l .glyphs, l .within, k .few, t .glyphs, few o);
+}
 
-  pub counting-open : f .close ≡ false → Counts (pairs cs gs) m
-  counting-open q = record {
-    is = sym (counted-none m) ∙ ap (λ (b : Bool). counted m (closing b)) (sym q) ∙ ended;
-    below = record { segments = omega (arith, l .segments, l .within, k .few, t .1 .0); glyphs = omega (arith, l .glyphs, l .within, k .few, t .1 .1) };
-  }
+closed-below : (m r : RangeCounter) (b : Bool) → Below 100000000000 m → Adds m (closing b) r → Below 1000000000000 r
+closed-below m r true h u = adds-below m r _ h u
+closed-below m r false h u = record { segments = rw (u .is) (omega (arith, h .segments)); glyphs = omega (arith, h .glyphs, u .glyphs) }
 
-  pub counting-closed : (r : RangeCounter) → f .close ≡ true
-      → (r ≡ counter (m .segments + 1) (m .glyphs + entriesOf (seg 65535 65535 1))) × (r .glyphs ≤ m .glyphs + 65536)
-      → Counts (pairs cs gs) r
-  counting-closed r q u = record {
-    is = u .0 ∙ ap (λ (b : Bool). counted m (closing b)) (sym q) ∙ ended;
-    below = record { segments = rw (u .0) (omega (arith, l .segments, l .within, k .few, t .1 .0)); glyphs = omega (arith, l .glyphs, l .within, k .few, t .1 .1, u .1) };
-  }
-
-pub ruleset counting = (counting-start, counting-on, counting-open, counting-closed)
+pub counting-end : (cs gs : List ℕ) (s : RangeState) (n : RangeCounter) (i : ℕ) (f : Finished) (m r : RangeCounter) → Columns cs gs → Counting cs gs s n i → length cs ≤ i
+    → f ≡ finish s → Adds n (toList (f .out)) m → Adds m (closing (f .close)) r → Counts (pairs cs gs) r
+counting-end cs gs s n i f m r k l h e t u = record {
+  is = u .is ∙ sink-end counted counted-append s cs gs i f n m h e (t .is) ∙ l .left;
+  below = closed-below m r (f .close) (ending-below cs gs s n i (f .out) m k l t) u;
+}
 
 -- ---- the size
 
@@ -100,8 +117,6 @@ module _ (cs gs : List ℕ) (n : RangeCounter) (l : ℕ) (k : Columns cs gs) (h 
 
   pub size-long : 65535 < l → TooLong ≡ sizeOf (pairs cs gs)
   size-long b = rw (lt-leb (lengthOf (countOf (pairs cs gs))) 65535 (omega (arith, same))) at (size-some cs gs (k .even) h)
-
-pub ruleset sizing = (size-empty, size-fits, size-long)
 
 -- what a size that fits tells
 pub record Told (ps : List Pair) (n : RangeCounter) : Type 0 where
@@ -132,3 +147,6 @@ fits-tells (p ∷ ps) n e = go (leb (lengthOf m) 65535) refl e
         let z : n ≡ m = sym (ap counterOf r) in
         record { is = z; short = rw z (leb-true (lengthOf m) 65535 q); some = rw z (segments-some (p ∷ ps) (omega arith)) }
     go false q r = absurd (false-true (ap fitting r))
+
+pub length-told : (language : ℕ) (ps : List Pair) (n : RangeCounter) → Told ps n → length (format4 language ps) ≡ lengthOf n
+length-told language ps n t = length-format4 language ps ∙ ap lengthOf (sym (t .is))

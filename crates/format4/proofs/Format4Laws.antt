@@ -1,6 +1,6 @@
 -- The lengths of a format 4 subtable's parts, and of its bytes.
-use Prim.Native.Nat.{ℕ, zero, suc, _+_, _-_, _*_, _≤_, _<_}
-use mathlib.Core.Path.{_≡_, refl, sym, ap, subst, _∙_}
+use Prim.Native.Nat.{ℕ, suc, _+_, _*_, _≤_}
+use mathlib.Core.Path.{_≡_, refl, sym, ap, _∙_}
 use mathlib.Core.List.{List, [], _∷_, _++_, map}
 use mathlib.Core.Bool.{Bool, true, false}
 use native.Mathlib.Omega.{arith}
@@ -12,8 +12,9 @@ use Rattle.laws.specs.Lists.{Pair, pairs}
 use Rattle.number.proofs.RowLaws.{length-encs}
 use Rattle.ranges.specs.declared.Segment.{Segment}
 use Rattle.ranges.specs.Steps.{entriesOf, entries}
-use Rattle.format4.specs.Format4.{points, segmentsOf, arrayFrom, arrayOf, glyphOf, offsetsFrom, lengthWith, header, endOf, startOf, deltaOf, columns, numbers, format4}
+use Rattle.format4.specs.Format4.{points, segmentsOf, arrayFrom, arrayOf, glyphOf, offsetsFrom, lengthWith, header, endOf, startOf, deltaOf, numbers, format4}
 use Rattle.format4.specs.Share.{Fed}
+use Rattle.format4.proofs.WalkLaws.{array-cut}
 use Rattle.format4.proofs.CutLaws.{segments-fed, entries-fed, segments-few}
 
 pub length-offsets : (before : ℕ) (ss : List Segment) → length (offsetsFrom before ss) ≡ length ss
@@ -21,23 +22,26 @@ unfolding offsetsFrom
 length-offsets before [] = refl
 length-offsets before (x ∷ xs) = ap suc (length-offsets (before + entriesOf x) xs)
 
-pub length-array : (gs : List ℕ) (ss : List Segment) → Fed (length gs) ss → length (arrayFrom gs ss) ≡ entries ss
+-- a segment's part of the array, and the rest
+pub array-step : (gs : List ℕ) (x : Segment) (xs : List Segment) → take (entriesOf x) gs ++ arrayFrom (drop (points x) gs) xs ≡ arrayFrom gs (x ∷ xs)
 unfolding arrayFrom
-length-array gs [] f = refl
-length-array gs (x ∷ xs) f = go (eqb (x .delta) 0) (f .0) (length-array (drop (points x) gs) xs (rw (length-drop (points x) gs) (f .2)))
+array-step gs x xs = go (eqb (x .delta) 0)
   where
-    n : ℕ
-    n = points x
-
     rest : List ℕ
-    rest = arrayFrom (drop n gs) xs
+    rest = arrayFrom (drop (points x) gs) xs
 
-    go : (t : Bool) → pick t n 0 ≤ length gs → length rest ≡ entries xs → length (pick t (take n gs ++ rest) rest) ≡ pick t n 0 + entries xs
-    go true h e = rw (length-append (take n gs) rest, length-take-le n gs h, e)
-    go false h e = e ∙ omega arith
+    go : (t : Bool) → take (pick t (points x) 0) gs ++ rest ≡ pick t (take (points x) gs ++ rest) rest
+    go true = refl
+    go false = refl
+
+pub length-array : (gs : List ℕ) (ss : List Segment) → Fed (length gs) ss → length (arrayFrom gs ss) ≡ entries ss
+length-array gs [] f = unfold arrayFrom in refl
+length-array gs (x ∷ xs) f =
+    let n = points x in
+    rw (← array-step gs x xs, length-append (take (entriesOf x) gs) (arrayFrom (drop n gs) xs), length-take-le (entriesOf x) gs (f .0), length-array (drop n gs) xs (rw (length-drop n gs) (f .2)))
 
 pub length-arrayOf : (ps : List Pair) → length (arrayOf ps) ≡ entries (segmentsOf ps)
-length-arrayOf ps = length-array (map glyphOf ps) (segmentsOf ps) (rw (length-map ps glyphOf) (segments-fed ps))
+length-arrayOf ps = ap length (sym (array-cut ps)) ∙ length-array (map glyphOf ps) (segmentsOf ps) (rw (length-map ps glyphOf) (segments-fed ps))
 
 pub length-format4 : (language : ℕ) (ps : List Pair) → length (format4 language ps) ≡ lengthWith (length (segmentsOf ps)) (length (arrayOf ps))
 unfolding format4 header

@@ -1,27 +1,22 @@
 -- Every number of a segment fits 16 bits where the pairs' numbers do.
-use Prim.Native.Nat.{ℕ, zero, suc, _+_, _-_, _*_, _%_, _≤_, _<_}
-use mathlib.Core.Path.{_≡_, refl, sym, _∙_}
+use Prim.Native.Nat.{ℕ, zero, suc, _<_}
+use mathlib.Core.Path.{_≡_, refl}
 use mathlib.Core.List.{List, [], _∷_, _++_, map}
-use mathlib.Core.Bool.{Bool, true, false, not}
+use mathlib.Core.Bool.{Bool, true, false}
 use native.Mathlib.Omega.{arith}
 use lib.Dec.{eqb}
-use lib.ListN.{length, getD, take, drop, List·getD-eq-default}
-use Rattle.laws.specs.Choice.{pick}
+use lib.ListN.{getD, take, drop}
 use Rattle.laws.specs.Lists.{Pair, pairs}
 use Rattle.laws.proofs.ChoiceLaws.{by-pick}
 use Rattle.ranges.specs.declared.Segment.{Segment}
 use Rattle.ranges.specs.declared.Committed.{Committed}
-use Rattle.ranges.specs.declared.Committed.the-variants.{None, One, Two}
-use Rattle.ranges.specs.declared.Absorbed.{Absorbed}
-use Rattle.ranges.specs.declared.Finished.{Finished}
 use Rattle.ranges.specs.declared.RangeState.{RangeState}
-use Rattle.ranges.specs.Steps.{seg, idle, begun, grown, turned, costOf, pays, commit, whole, splits, earlier, theRun, absorbed, step, finish, toList, closing, cutFrom}
+use Rattle.ranges.specs.Steps.{seg, commit, toList, closing}
 use Rattle.format4.specs.Format4.{segmentsOf, arrayFrom, arrayOf, glyphOf, points}
-use Rattle.format4.proofs.CutLaws.{segments-cut}
+use Rattle.format4.proofs.WalkLaws.{array-cut, commit-cases, All, Walk, segments-walk}
 
-abbrev pub LowPairs : List Pair → Type 0
-LowPairs [] = Unit {0}
-LowPairs (p ∷ ps) = (p .0 < 65536) × (p .1 < 65536) × LowPairs ps
+abbrev pub LowPair : Pair → Type 0
+LowPair p = (p .0 < 65536) × (p .1 < 65536)
 
 pub record LowSegment (x : Segment) : Type 0 where
   pub start : x .start < 65536
@@ -32,7 +27,8 @@ abbrev pub LowSegments : List Segment → Type 0
 LowSegments [] = Unit {0}
 LowSegments (x ∷ xs) = LowSegment x × LowSegments xs
 
-record LowState (s : RangeState) : Type 0 where
+record LowState (k : ℕ) (s : RangeState) : Type 0 where
+  runs : s .running ≡ true
   start : s .start < 65536
   run : s .run < 65536
   end : s .end < 65536
@@ -42,52 +38,31 @@ record LowState (s : RangeState) : Type 0 where
 low-seg : (a e d : ℕ) → a < 65536 → e < 65536 → d < 65536 → LowSegment (seg a e d)
 low-seg a e d p q r = record { start = p; end = q; delta = r }
 
-commit-low : (s : RangeState) (cost : ℕ) (rest : List Segment) → LowState s → LowSegments rest → LowSegments (toList (commit s cost) ++ rest)
-unfolding commit
-commit-low s cost rest l r =
-    by-pick (λ (o : Committed). LowSegments (toList o ++ rest)) (eqb (s .start) (s .run)) (One (whole s (s .delta))) (pick (splits s cost) (Two (earlier s) (theRun s)) (One (whole s 0)))
-    (λ _. (low-seg _ _ _ (l .start) (l .end) (l .delta), r))
-    (λ _. by-pick (λ (o : Committed). LowSegments (toList o ++ rest)) (splits s cost) (Two (earlier s) (theRun s)) (One (whole s 0))
-    (λ _. (low-seg _ _ _ (l .start) (omega (arith, l .run)) (by-pick (λ (d : ℕ). d < 65536) (eqb (s .start) (s .prev)) (s .prevdelta) 0 (λ _. l .prevdelta) (λ _. omega arith)), (low-seg _ _ _ (l .run) (l .end) (l .delta), r)))
-    (λ _. (low-seg _ _ _ (l .start) (l .end) (omega arith), r)))
+commit-low : (k m : ℕ) (s : RangeState) (cost : ℕ) (rest : List Segment) → LowState k s → LowSegments rest → LowSegments (toList (commit s cost) ++ rest)
+commit-low k m s cost rest l r =
+    let prev = by-pick (λ (d : ℕ). d < 65536) (eqb (s .start) (s .prev)) (s .prevdelta) 0 (λ _. l .prevdelta) (λ _. omega arith) in
+    commit-cases (λ (o : Committed). LowSegments (toList o ++ rest)) s cost
+    (low-seg _ _ _ (l .start) (l .end) (l .delta), r)
+    (λ _. (low-seg _ _ _ (l .start) (omega (arith, l .run)) prev, (low-seg _ _ _ (l .run) (l .end) (l .delta), r)))
+    (low-seg _ _ _ (l .start) (l .end) (omega arith), r)
 
 closing-low : (t : Bool) → LowSegments (closing t)
 closing-low true = (low-seg _ _ _ (omega arith) (omega arith) (omega arith), tt)
 closing-low false = tt
 
-abbrev Finishes : Finished → Type 0
-Finishes f = LowSegments (toList (f .out) ++ closing (f .close))
+lows : Walk LowPair LowState (λ k ss. LowSegments ss)
+lows = record {
+  runs = λ k s l. l .runs;
+  begins = λ p q. record { runs = refl; start = q .0; run = q .0; end = q .0; delta = omega arith; prevdelta = omega arith };
+  grows = λ k s p q e l. record { runs = l .runs; start = l .start; run = l .run; end = q .0; delta = l .delta; prevdelta = l .prevdelta };
+  turns = λ k s p q e l. record { runs = refl; start = l .start; run = q .0; end = q .0; delta = omega arith; prevdelta = l .delta };
+  turns-new = λ k s p q l. record { runs = refl; start = q .0; run = q .0; end = q .0; delta = omega arith; prevdelta = l .delta };
+  commits = commit-low;
+  closes = closing-low;
+}
 
-abbrev Steps : List Pair → Absorbed → Type 0
-Steps ps o = LowSegments (toList (o .out) ++ cutFrom (o .state) ps)
-
-cut-low : (ps : List Pair) (s : RangeState) → LowState s → LowPairs ps → LowSegments (cutFrom s ps)
-unfolding cutFrom step finish
-cut-low [] s l p =
-    by-pick Finishes (s .running) (record { out = commit s 8; close = not (eqb (s .end) 65535) }) (record { out = None; close = true })
-    (λ _. commit-low s 8 (closing (not (eqb (s .end) 65535))) l (closing-low (not (eqb (s .end) 65535))))
-    (λ _. closing-low true)
-cut-low (p ∷ ps) s l q =
-    let B = begun (p .0) (p .1) in
-    let G = grown s (p .0) (p .1) in
-    let T = turned s (p .0) (p .0) (p .1) in
-    let U = turned s (s .start) (p .0) (p .1) in
-    let turn = pick (pays s (costOf s)) (absorbed T (commit s (costOf s))) (absorbed U None) in
-    let on = pick (eqb (p .1) (s .glyph + 1)) (absorbed G None) turn in
-    let all = pick (eqb (p .0) (s .end + 1)) on (absorbed B (commit s 8)) in
-    let b = cut-low ps B (record { start = q .0; run = q .0; end = q .0; delta = omega arith; prevdelta = omega arith }) (q .2) in
-    by-pick (Steps ps) (s .running) all (absorbed B None)
-    (λ _. by-pick (Steps ps) (eqb (p .0) (s .end + 1)) on (absorbed B (commit s 8))
-    (λ _. by-pick (Steps ps) (eqb (p .1) (s .glyph + 1)) (absorbed G None) turn
-    (λ _. cut-low ps G (record { start = l .start; run = l .run; end = q .0; delta = l .delta; prevdelta = l .prevdelta }) (q .2))
-    (λ _. by-pick (Steps ps) (pays s (costOf s)) (absorbed T (commit s (costOf s))) (absorbed U None)
-    (λ _. commit-low s (costOf s) (cutFrom T ps) l (cut-low ps T (record { start = q .0; run = q .0; end = q .0; delta = omega arith; prevdelta = l .delta }) (q .2)))
-    (λ _. cut-low ps U (record { start = l .start; run = q .0; end = q .0; delta = omega arith; prevdelta = l .delta }) (q .2))))
-    (λ _. commit-low s 8 (cutFrom B ps) l b))
-    (λ _. b)
-
-pub segments-low : (ps : List Pair) → LowPairs ps → LowSegments (segmentsOf ps)
-segments-low ps p = rw (← segments-cut ps) (cut-low ps idle (record { start = omega arith; run = omega arith; end = omega arith; delta = omega arith; prevdelta = omega arith }) p)
+pub segments-low : (ps : List Pair) → All LowPair ps → LowSegments (segmentsOf ps)
+segments-low = segments-walk lows
 
 -- ---- a column, and the array
 
@@ -127,16 +102,16 @@ low-array gs (x ∷ xs) l =
     by-pick LowList (eqb (x .delta) 0) (take (points x) gs ++ arrayFrom (drop (points x) gs) xs) (arrayFrom (drop (points x) gs) xs)
     (λ _. low-append (take (points x) gs) (arrayFrom (drop (points x) gs) xs) (low-take (points x) gs l) rest) (λ _. rest)
 
-low-glyphs : (ps : List Pair) → LowPairs ps → LowList (map glyphOf ps)
+low-glyphs : (ps : List Pair) → All LowPair ps → LowList (map glyphOf ps)
 low-glyphs [] l = tt
-low-glyphs (p ∷ ps) l = (l .1, low-glyphs ps (l .2))
+low-glyphs (p ∷ ps) l = (l .0 .1, low-glyphs ps (l .1))
 
-pub array-low : (ps : List Pair) → LowPairs ps → (k : ℕ) → getD (arrayOf ps) k 0 < 65536
-array-low ps l = low-getD (arrayOf ps) (low-array (map glyphOf ps) (segmentsOf ps) (low-glyphs ps l))
+pub array-low : (ps : List Pair) → All LowPair ps → (k : ℕ) → getD (arrayOf ps) k 0 < 65536
+array-low ps l = low-getD (arrayOf ps) (rw (array-cut ps) at (low-array (map glyphOf ps) (segmentsOf ps) (low-glyphs ps l)))
 
 -- ---- the pairs of two columns
 
-pub columns-low : (cs gs : List ℕ) → ((k : ℕ) → getD cs k 0 < 65536) → ((k : ℕ) → getD gs k 0 < 65536) → LowPairs (pairs cs gs)
+pub columns-low : (cs gs : List ℕ) → ((k : ℕ) → getD cs k 0 < 65536) → ((k : ℕ) → getD gs k 0 < 65536) → All LowPair (pairs cs gs)
 columns-low [] gs c g = tt
 columns-low (x ∷ cs) [] c g = tt
-columns-low (x ∷ cs) (y ∷ gs) c g = (c 0, g 0, columns-low cs gs (λ k. c (suc k)) (λ k. g (suc k)))
+columns-low (x ∷ cs) (y ∷ gs) c g = ((c 0, g 0), columns-low cs gs (λ k. c (suc k)) (λ k. g (suc k)))

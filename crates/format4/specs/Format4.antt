@@ -26,7 +26,8 @@ abbrev pub glyphOf : Pair → ℕ
 glyphOf p = p .1
 
 -- the glyph array
-abbrev pub arrayOf : List Pair → List ℕ
+unfoldable pub arrayOf : List Pair → List ℕ
+unfolding segmentsOf arrayFrom
 arrayOf ps = arrayFrom (map glyphOf ps) (segmentsOf ps)
 
 -- the range offsets, where `before` entries of the array stand before the first of these segments: how many bytes it is from the offset
@@ -74,5 +75,5 @@ numbers language ss array = header language (length ss) (length array) ++ column
 
 -- two bytes each
 unfoldable pub format4 : ℕ → List Pair → List ℕ
-unfolding segmentsOf arrayFrom
+unfolding segmentsOf arrayOf
 format4 language ps = encs 2 (numbers language (segmentsOf ps) (arrayOf ps))

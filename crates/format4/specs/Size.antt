@@ -1,5 +1,5 @@
 -- How long a format 4 subtable gets, and whether it is written at all (01, "Format 4").
-use Prim.Native.Nat.{ℕ, _+_, _≤_, _<_}
+use Prim.Native.Nat.{ℕ, _+_, _*_, _≤_, _<_}
 use mathlib.Core.Path.{_≡_}
 use mathlib.Core.List.{List, [], _∷_}
 use lib.Dec.{leb}
@@ -45,6 +45,11 @@ pub record Below (m : ℕ) (n : RangeCounter) : Type 0 where
 -- a counter that has seen these segments too
 abbrev pub counted : RangeCounter → List Segment → RangeCounter
 counted n ss = counter (n .segments + length ss) (n .glyphs + entries ss)
+
+-- m has seen these segments after n; a segment has at most 65,536 entries
+pub record Adds (n : RangeCounter) (ss : List Segment) (m : RangeCounter) : Type 0 where
+  pub is : m ≡ counted n ss
+  pub glyphs : m .glyphs ≤ n .glyphs + 65536 * length ss
 
 -- what a walk over the pairs gives: their count, far from an overflow
 pub record Counts (ps : List Pair) (n : RangeCounter) : Type 0 where

@@ -3,11 +3,12 @@ use ranges::Committed;
 use ranges::RangeState;
 use ranges::Segment;
 ghost use mathlib.Core.Path.{_≡_};
+ghost use mathlib.Core.List.{_∷_, []};
 ghost use Prim.Native.Nat.{_+_, _*_, _≤_, _<_};
 ghost use Rattle.laws.specs.Lists.{pairs};
-ghost use Rattle.ranges.specs.Steps.{toList, entriesOf};
+ghost use Rattle.ranges.specs.Steps.{toList, closing, entriesOf};
 ghost use Rattle.format4.specs.Format4.{points};
-ghost use Rattle.format4.specs.Size.{Columns, Below, counter, counted, Counts, lengthOf, sizeOf};
+ghost use Rattle.format4.specs.Size.{Columns, Below, counter, Adds, Counts, lengthOf, sizeOf};
 
 pub struct RangeCounter {
     pub segments: usize,
@@ -53,7 +54,7 @@ impl RangeCounter {
 
     pub fn write_one_range(self, x: Segment) -> Self
         requires { ⌜ Below 1000000000000 self ⌝ }
-        ensures { λ r. ⌜ (r ≡ counter (self .segments + 1) (self .glyphs + entriesOf x)) × (r .glyphs ≤ self .glyphs + 65536) ⌝ }
+        ensures { λ r. ⌜ Adds self (x ∷ []) r ⌝ }
     {
         RangeCounter {
             segments: self.segments + 1,
@@ -63,13 +64,28 @@ impl RangeCounter {
 
     pub fn absorb(self, out: Committed) -> Self
         requires { ⌜ Below 100000000000 self ⌝ }
-        ensures { λ r. ⌜ (r ≡ counted self (toList out)) × ((r .segments ≤ self .segments + 2) × (r .glyphs ≤ self .glyphs + 131072)) ⌝ }
+        ensures { λ r. ⌜ Adds self (toList out) r ⌝ }
     {
         match out {
             Committed::None => self,
             Committed::One(a) => self.write_one_range(a),
             Committed::Two(a, b) => self.write_one_range(a).write_one_range(b),
         }
+    }
+
+    // The closing segment, if there is one.
+    pub fn close(self, close: bool) -> Self
+        requires { ⌜ Below 100000000000 self ⌝ }
+        ensures { λ r. ⌜ Adds self (closing close) r ⌝ }
+    {
+        if close {
+            return self.write_one_range(Segment {
+                start: 65535,
+                end: 65535,
+                delta: 1,
+            });
+        }
+        self
     }
 
     pub fn length(self) -> usize
@@ -98,15 +114,7 @@ pub fn find_segcount(codes: &[u32], glyphs: &[u16]) -> RangeCounter
     }
     let f = state.finish();
     let out = f.out;
-    let m = n.absorb(out);
-    if f.close {
-        return m.write_one_range(Segment {
-            start: 65535,
-            end: 65535,
-            delta: 1,
-        });
-    }
-    m
+    n.absorb(out).close(f.close)
 }
 
 pub fn format4_size(codes: &[u32], glyphs: &[u16]) -> Size

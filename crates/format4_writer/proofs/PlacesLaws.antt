@@ -1,27 +1,24 @@
 -- Segment by segment is column by column; header and columns are the subtable.
-use Prim.Native.Nat.{ℕ, zero, suc, _+_, _-_, _*_, _^_, _≤_, _<_}
+use Prim.Native.Nat.{ℕ, suc, _+_, _-_, _*_, _^_, _≤_, _<_}
 use mathlib.Core.Path.{_≡_, refl, sym, _∙_, ap, ap₂, subst}
 use mathlib.Core.List.{List, [], _∷_, _++_, map}
-use mathlib.Core.Bool.{Bool, true, false}
 use native.Mathlib.Omega.{arith}
-use native.Mathlib.Numerals.{add-one}
 use lib.Dec.{eqb}
-use lib.ListN.{length, length-drop, getD, take, drop, length-map, length-append}
-use lib.Seq.{sets, drop-cons, drop-drop, length-sets, length-take-le}
+use lib.ListN.{length, length-drop, getD, take, drop, length-map}
+use lib.Seq.{sets, drop-cons, drop-drop, length-take-le}
 use Rattle.laws.specs.Choice.{pick}
-use Rattle.laws.specs.Lists.{Pair, pairs}
-use Rattle.laws.proofs.RunsLaws.{sets-then, sets-sets, Column, fronts-rests}
+use Rattle.laws.proofs.RunsLaws.{sets-sets, Column, fronts-rests}
 use Rattle.number.specs.BigEndian.{put, enc}
 use Rattle.number.specs.Row.{encs}
-use Rattle.number.proofs.BigEndianLaws.{length-enc, length-put}
+use Rattle.number.proofs.BigEndianLaws.{length-put}
 use Rattle.number.proofs.RowLaws.{put-one, length-encs, encs-append, encs-then, put-encs}
 use Rattle.ranges.specs.declared.Segment.{Segment}
-use Rattle.ranges.specs.Steps.{entriesOf, entries}
-use Rattle.format4.specs.Format4.{floorLog2, points, arrayFrom, offsetsFrom, header, endOf, startOf, deltaOf, columns, numbers}
+use Rattle.ranges.specs.Steps.{entriesOf}
+use Rattle.format4.specs.Format4.{floorLog2, points, arrayFrom, offsetsFrom, header, endOf, startOf, deltaOf, numbers}
 use Rattle.format4.specs.Share.{Fed}
-use Rattle.format4.proofs.Format4Laws.{length-offsets}
+use Rattle.format4.proofs.Format4Laws.{length-offsets, array-step}
 use Rattle.format4_writer.specs.declared.RangeWriter.{RangeWriter}
-use Rattle.format4_writer.specs.Places.{offsetAt, partOf, nextOf, putThree, putGlyphs, putOne, putAll, columnsAt, Apart, placesAt, headed}
+use Rattle.format4_writer.specs.Places.{offsetAt, partOf, nextOf, putOne, putAll, columnsAt, Apart, placesAt, headed}
 
 -- ---- a turn of put_glyphs
 
@@ -67,24 +64,15 @@ length-column : (f : Segment → ℕ) (xs : List Segment) → length (encs 2 (ma
 length-column f xs = length-encs 2 (map f xs) ∙ ap (λ (n : ℕ). 2 * n) (length-map xs f)
 
 apart-next : {w : RangeWriter} {n before : ℕ} (x : Segment) → Apart w (suc n) before → Apart (nextOf w x) n (before + entriesOf x)
-apart-next x r = record { first = omega (arith, r .first); second = omega (arith, r .second); third = omega (arith, r .third); fourth = omega (arith, r .fourth) }
+apart-next x r = omega arith
 
 -- the range offset that is stored is the definition's
 offset-is : (w : RangeWriter) (x : Segment) (n before : ℕ) → Apart w (suc n) before → offsetAt w x ≡ pick (eqb (x .delta) 0) (2 * suc n + 2 * before) 0
 offset-is w x n before r = ap (λ (k : ℕ). pick (eqb (x .delta) 0) k 0) (omega (arith, r .fourth))
 
--- the array is a segment's part of it, and the rest
-array-step : (gs : List ℕ) (k : ℕ) (x : Segment) (xs : List Segment)
-    → take (entriesOf x) (drop k gs) ++ arrayFrom (drop (k + points x) gs) xs ≡ arrayFrom (drop k gs) (x ∷ xs)
-unfolding arrayFrom
-array-step gs k x xs = rw (drop-drop (points x) k gs) (go (eqb (x .delta) 0))
-  where
-    rest : List ℕ
-    rest = arrayFrom (drop (k + points x) gs) xs
-
-    go : (t : Bool) → take (pick t (points x) 0) (drop k gs) ++ rest ≡ pick t (take (points x) (drop k gs) ++ rest) rest
-    go true = refl
-    go false = refl
+-- the array from the k-th glyph on is a segment's part of it, and the rest
+part-step : (gs : List ℕ) (k : ℕ) (x : Segment) (xs : List Segment) → take (entriesOf x) (drop k gs) ++ arrayFrom (drop (k + points x) gs) xs ≡ arrayFrom (drop k gs) (x ∷ xs)
+part-step gs k x xs = ap (λ (l : List ℕ). take (entriesOf x) (drop k gs) ++ arrayFrom l xs) (sym (drop-drop (points x) k gs)) ∙ array-step (drop k gs) x xs
 
 -- how long a segment's part of the array is, where there are glyphs enough
 length-part : (gs : List ℕ) (k n : ℕ) → n ≤ length gs - k → length (encs 2 (take n (drop k gs))) ≡ 2 * n
@@ -123,12 +111,12 @@ put-columns gs (x ∷ xs) o w before r f =
     ∙ ap₂
     (λ (v : ℕ) (a : List ℕ). sets (sets (sets (sets (sets o (w .ends) (encs 2 (map endOf (x ∷ xs)))) (w .starts) (encs 2 (map startOf (x ∷ xs)))) (w .deltas) (encs 2 (map deltaOf (x ∷ xs)))) (w .offsets) (enc 2 v ++ F .rest)) (w .array) a)
     (offset-is w x (length xs) before r)
-    (sym (encs-append 2 (partOf gs w x) (arrayFrom (drop (w .next + points x) gs) xs)) ∙ ap (encs 2) (array-step gs (w .next) x xs))
+    (sym (encs-append 2 (partOf gs w x) (arrayFrom (drop (w .next + points x) gs) xs)) ∙ ap (encs 2) (part-step gs (w .next) x xs))
 
 -- ---- the subtable
 
 pub apart-at : (at s : ℕ) → Apart (placesAt at s) s 0
-apart-at at s = record { first = omega arith; second = omega arith; third = omega arith; fourth = omega arith }
+apart-at at s = omega arith
 
 -- the header, the zero after the ends, and the columns
 pub whole-subtable : (language : ℕ) (gs : List ℕ) (ss : List Segment) (o : List ℕ) (at : ℕ)

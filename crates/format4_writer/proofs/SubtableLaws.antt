@@ -1,6 +1,6 @@
 -- What the size that was found says of the places, and that header and columns are the definition's bytes.
-use Prim.Native.Nat.{ℕ, _+_, _-_, _*_, _≤_, _<_}
-use mathlib.Core.Path.{_≡_, refl, sym, _∙_, ap, subst}
+use Prim.Native.Nat.{ℕ, _+_, _-_, _≤_}
+use mathlib.Core.Path.{_≡_, sym, _∙_, ap, subst}
 use mathlib.Core.List.{List}
 use native.Mathlib.Omega.{arith}
 use lib.ListN.{length}
@@ -8,9 +8,10 @@ use lib.Seq.{sets}
 use Rattle.laws.specs.Lists.{pairs}
 use Rattle.ranges.specs.Steps.{entries}
 use Rattle.format4.specs.declared.RangeCounter.{RangeCounter}
-use Rattle.format4.specs.Format4.{segmentsOf, arrayOf, format4}
+use Rattle.format4.specs.Format4.{segmentsOf, arrayFrom, arrayOf, format4}
 use Rattle.format4.specs.Share.{Fed}
-use Rattle.format4.specs.Size.{Columns, lengthOf, countOf}
+use Rattle.format4.specs.Size.{Columns, lengthOf}
+use Rattle.format4.proofs.WalkLaws.{array-cut}
 use Rattle.format4.proofs.CutLaws.{segments-fed}
 use Rattle.format4.proofs.Format4Laws.{length-arrayOf, length-pairs, glyphs-pairs}
 use Rattle.format4.proofs.CountLaws.{Told}
@@ -28,19 +29,14 @@ module _ (cs gs : List ℕ) (n : RangeCounter) (k : Columns cs gs) (t : Told (pa
       let e = length-pairs cs gs (k .even) in
       let z : length (pairs cs gs) ≡ length gs - 0 = omega arith in
       let short = t .short in
-      record {
-        ends = omega arith;
-        starts = omega arith;
-        deltas = omega arith;
-        offsets = omega arith;
-        array = omega arith;
-        near = omega arith;
-        fed = subst (λ (m : ℕ). Fed m (segmentsOf (pairs cs gs))) z (segments-fed (pairs cs gs));
-        next = omega arith;
-        most = omega (arith, k .even, k .few);
-      }
+      let even = k .even in
+      let few = k .few in
+      record { places = omega arith; fed = subst (λ (m : ℕ). Fed m (segmentsOf (pairs cs gs))) z (segments-fed (pairs cs gs)) }
 
   pub told-is : (language : ℕ) (o : List ℕ)
       → columnsAt gs (headed o at language (n .segments) (n .glyphs)) (placesAt at (n .segments)) 0 (segmentsOf (pairs cs gs)) ≡ sets o at (format4 language (pairs cs gs))
   unfolding format4
-  told-is language o = rw (t .is, glyphs-pairs cs gs (k .even)) (whole-subtable language gs (segmentsOf (pairs cs gs)) o at)
+  told-is language o =
+      let ps = pairs cs gs in
+      let z : arrayFrom gs (segmentsOf ps) ≡ arrayOf ps = ap (λ (l : List ℕ). arrayFrom l (segmentsOf ps)) (sym (glyphs-pairs cs gs (k .even))) ∙ array-cut ps in
+      rw (t .is, ← z) (whole-subtable language gs (segmentsOf ps) o at)

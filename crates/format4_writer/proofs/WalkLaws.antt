@@ -1,11 +1,10 @@
 -- The walk that writes: the loop's invariant, and a rule for each way on.
-use Prim.Native.Nat.{ℕ, suc, _+_, _-_, _*_, _≤_, _<_}
+use Prim.Native.Nat.{ℕ, _+_, _-_, _≤_, _<_}
 use mathlib.Core.Path.{_≡_, refl, sym, _∙_, ap, ap₂, subst}
 use mathlib.Core.List.{List, [], _∷_, _++_}
-use mathlib.Core.Bool.{Bool, true, false}
 use native.Mathlib.Omega.{arith}
 use lib.ListN.{length, getD, drop, length-append}
-use lib.Seq.{sets, length-sets}
+use lib.Seq.{length-sets}
 use Rattle.laws.specs.Lists.{pairs}
 use Rattle.number.specs.Row.{encs}
 use Rattle.number.proofs.BigEndianLaws.{length-put}
@@ -13,14 +12,14 @@ use Rattle.ranges.specs.declared.Segment.{Segment}
 use Rattle.ranges.specs.declared.RangeState.{RangeState}
 use Rattle.ranges.specs.declared.Absorbed.{Absorbed}
 use Rattle.ranges.specs.declared.Finished.{Finished}
-use Rattle.ranges.specs.Steps.{seg, idle, step, finish, toList, closing, cutFrom, entriesOf, entries}
+use Rattle.ranges.specs.Steps.{idle, step, finish, toList, closing, cutFrom}
 use Rattle.ranges.proofs.StepsLaws.{entries-append, walk-step, walk-end}
 use Rattle.format4.specs.Format4.{points, segmentsOf}
 use Rattle.format4.specs.Size.{Columns}
 use Rattle.format4.specs.Share.{Fed}
-use Rattle.format4.proofs.CutLaws.{segments-cut}
+use Rattle.format4.proofs.WalkLaws.{segments-cut}
 use Rattle.format4_writer.specs.declared.RangeWriter.{RangeWriter}
-use Rattle.format4_writer.specs.Places.{offsetAt, partOf, nextOf, putThree, putGlyphs, putOne, putAll, movedBy, Room, columnsAt, Apart}
+use Rattle.format4_writer.specs.Places.{partOf, nextOf, putOne, putAll, movedBy, Room, columnsAt, Apart}
 use Rattle.format4_writer.proofs.PlacesLaws.{put-columns}
 
 -- ---- room
@@ -31,34 +30,17 @@ fed-front (x ∷ a) b k f = (f .0, f .1, fed-front a b (k - points x) (f .2))
 
 pub room-front : {w : RangeWriter} {k l : ℕ} (a b : List Segment) → Room w (a ++ b) k l → Room w a k l
 room-front {w} {k} a b r =
+    let p = r .places in
     let e = length-append a b in
     let f = entries-append a b in
-    record {
-      ends = omega (arith, r .ends);
-      starts = omega (arith, r .starts);
-      deltas = omega (arith, r .deltas);
-      offsets = omega (arith, r .offsets);
-      array = omega (arith, r .array);
-      near = omega (arith, r .near);
-      fed = fed-front a b (k - w .next) (r .fed);
-      next = omega (arith, r .next);
-      most = omega (arith, r .most);
-    }
+    record { places = omega arith; fed = fed-front a b (k - w .next) (r .fed) }
 
 pub room-next : {w : RangeWriter} {k l : ℕ} (x : Segment) (xs : List Segment) → Room w (x ∷ xs) k l → Room (nextOf w x) xs k l
 room-next {w} {k} x xs r =
+    let p = r .places in
+    let q = r .fed .1 in
     let left : k - w .next - points x ≡ k - (w .next + points x) = omega arith in
-    record {
-      ends = omega (arith, r .ends);
-      starts = omega (arith, r .starts);
-      deltas = omega (arith, r .deltas);
-      offsets = omega (arith, r .offsets);
-      array = omega (arith, r .array);
-      near = omega (arith, r .near);
-      fed = subst (λ (n : ℕ). Fed n xs) left (r .fed .2);
-      next = omega (arith, r .next, r .most, r .fed .1);
-      most = omega (arith, r .most);
-    }
+    record { places = omega arith; fed = subst (λ (n : ℕ). Fed n xs) left (r .fed .2) }
 
 room-back : {w : RangeWriter} {k l : ℕ} (a b : List Segment) → Room w (a ++ b) k l → Room (movedBy w a) b k l
 unfolding movedBy
@@ -135,18 +117,14 @@ module _ (cs gs o₀ : List ℕ) (w₀ : RangeWriter) (s : RangeState) (o : List
     ending-room = left-room (toList (f .out)) _ end
 
     module _ (p : List ℕ) (v : RangeWriter) (t : (v ≡ movedBy w (toList (f .out))) × (p ≡ putAll gs o w (toList (f .out)))) where
-      pub ended : Left gs p v (closing (f .close)) (length o₀) whole
+      ended : Left gs p v (closing (f .close)) (length o₀) whole
       ended = left-next (toList (f .out)) (closing (f .close)) end (t .0) (t .1)
 
--- the closing segment, or none
-module _ (gs p : List ℕ) (v : RangeWriter) (b : Bool) (l : ℕ) (whole : List ℕ) (d : Left gs p v (closing b) l whole) where
-  pub close-room : b ≡ true → Room v (seg 65535 65535 1 ∷ []) (length gs) (length p)
-  close-room e = let t = rw e at d in rw (t .long) (t .room)
+      pub closing-room : Room v (closing (f .close)) (length gs) (length p)
+      closing-room = rw (ended .long) (ended .room)
 
-  pub close-yes : b ≡ true → putOne gs p v (seg 65535 65535 1) ≡ whole
-  unfolding putAll
-  close-yes e = let t = rw e at d in t .goes
+      pub ended-long : length p ≡ length o₀
+      ended-long = ended .long
 
-  pub close-no : b ≡ false → p ≡ whole
-  unfolding putAll
-  close-no e = let t = rw e at d in t .goes
+      pub ended-is : putAll gs p v (closing (f .close)) ≡ whole
+      ended-is = ended .goes

@@ -1,4 +1,5 @@
--- What is written for each segment, where it goes, and the room that it wants.
+-- What is written for each segment, where it goes, and the room that it wants: the steps between write_format4 and its parts,
+-- which its own contract does not name.
 use Prim.Native.Nat.{ℕ, _+_, _-_, _*_, _^_, _≤_, _<_}
 use mathlib.Core.Path.{_≡_}
 use mathlib.Core.List.{List, [], _∷_, map}
@@ -67,17 +68,21 @@ pub record Small (w : RangeWriter) : Type 0 where
   pub array : w .array < 9223372036854775808
   pub next : w .next < 9223372036854775808
 
--- room for the segments in l bytes, and glyphs enough among k; the array lies less than 65,536 bytes past the offsets, as it does in a subtable
+-- room for n segments with g entries in l bytes; the array lies less than 65,536 bytes past the offsets, as it does in a subtable
+pub record Places (w : RangeWriter) (n g k l : ℕ) : Type 0 where
+  pub ends : w .ends + 2 * n ≤ l
+  pub starts : w .starts + 2 * n ≤ l
+  pub deltas : w .deltas + 2 * n ≤ l
+  pub offsets : w .offsets + 2 * n ≤ w .array
+  pub array : w .array + 2 * g ≤ l
+  pub near : w .array + 2 * g < w .offsets + 65536
+  pub next : w .next + n < 1000000
+  pub most : k + n < 1000000
+
+-- room for the segments, and glyphs enough among k
 pub record Room (w : RangeWriter) (ss : List Segment) (k l : ℕ) : Type 0 where
-  pub ends : w .ends + 2 * length ss ≤ l
-  pub starts : w .starts + 2 * length ss ≤ l
-  pub deltas : w .deltas + 2 * length ss ≤ l
-  pub offsets : w .offsets + 2 * length ss ≤ w .array
-  pub array : w .array + 2 * entries ss ≤ l
-  pub near : w .array + 2 * entries ss < w .offsets + 65536
+  pub places : Places w (length ss) (entries ss) k l
   pub fed : Fed (k - w .next) ss
-  pub next : w .next + length ss < 1000000
-  pub most : k + length ss < 1000000
 
 -- the columns, each at its place, and the glyph array; all else as it was. `before` entries of the array stand before its place
 abbrev pub columnsAt : List ℕ → List ℕ → RangeWriter → ℕ → List Segment → List ℕ

@@ -4,13 +4,13 @@ use ranges::Committed;
 use ranges::RangeState;
 use ranges::Segment;
 ghost use mathlib.Core.Path.{_≡_};
-ghost use mathlib.Core.List.{List, _∷_, []};
-ghost use Prim.Native.Nat.{ℕ, _+_, _-_, _*_, _^_, _≤_, _<_};
+ghost use mathlib.Core.List.{_∷_, []};
+ghost use Prim.Native.Nat.{_+_, _-_, _*_, _^_, _≤_, _<_};
 ghost use lib.ListN.{length, take, drop};
 ghost use lib.Seq.{sets};
 ghost use Rattle.laws.specs.Lists.{pairs};
 ghost use Rattle.number.specs.Row.{encs};
-ghost use Rattle.ranges.specs.Steps.{toList};
+ghost use Rattle.ranges.specs.Steps.{toList, closing};
 ghost use Rattle.format4.specs.declared.Size.the-variants.{Fits};
 ghost use Rattle.format4.specs.Format4.{segmentsOf, floorLog2, format4};
 ghost use Rattle.format4.specs.Size.{Columns, lengthOf, sizeOf};
@@ -180,6 +180,24 @@ impl RangeWriter {
             }
         }
     }
+
+    // The closing segment, if there is one.
+    pub fn close(self, out: &mut [u8], glyphs: &[u16], close: bool)
+        requires { ⌜ Room self (closing close) (length (now glyphs)) (length (now out)) ⌝ }
+        ensures { λ _. ⌜ now (out .exit) ≡ putAll (now (glyphs .entry)) (now (out .entry)) self (closing close) ⌝ }
+    {
+        if close {
+            self.write_one_range(
+                out,
+                glyphs,
+                Segment {
+                    start: 65535,
+                    end: 65535,
+                    delta: 1,
+                },
+            );
+        }
+    }
 }
 
 // The columns and the glyph array.
@@ -203,17 +221,7 @@ pub fn write_columns(out: &mut [u8], codes: &[u32], glyphs: &[u16], at: RangeWri
     let f = state.finish();
     let c = f.out;
     let v = w.absorb(out, glyphs, c);
-    if f.close {
-        v.write_one_range(
-            out,
-            glyphs,
-            Segment {
-                start: 65535,
-                end: 65535,
-                delta: 1,
-            },
-        );
-    }
+    v.close(out, glyphs, f.close);
 }
 
 // The whole subtable, from at. n is what format4_size gave.

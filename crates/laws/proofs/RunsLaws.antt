@@ -1,15 +1,11 @@
--- Several runs of stores: those apart may be made in any order, and those that meet are one.
+-- Several runs of stores: one that lies before the others may be made first, so columns may be written row by row.
 use Prim.Native.Nat.{ℕ, suc, _+_, _≤_}
-use mathlib.Core.Path.{_≡_, refl, sym, ap, _∙_}
+use mathlib.Core.Path.{_≡_, refl, ap, _∙_}
 use mathlib.Core.List.{List, [], _∷_, _++_}
 use native.Mathlib.Omega.{arith}
-use lib.ListN.{length, set, length-append}
-use lib.Seq.{sets, set-comm, length-sets}
+use lib.ListN.{length, set}
+use lib.Seq.{sets, set-comm}
 use Rattle.laws.proofs.SetsLaws.{sets-append}
-
--- us, and vs right behind them
-pub sets-then : (us vs l : List ℕ) (i j : ℕ) → j ≡ i + length us → sets (sets l i us) j vs ≡ sets l i (us ++ vs)
-sets-then us vs l i j e = ap (λ (k : ℕ). sets (sets l i us) k vs) e ∙ sets-append l i us vs
 
 sets-set : (l : List ℕ) (j a i : ℕ) (vs : List ℕ) → i + length vs ≤ j → sets (set l j a) i vs ≡ set (sets l i vs) j a
 sets-set l j a i [] h = refl
@@ -30,10 +26,6 @@ Run = ℕ × List ℕ
 abbrev pub runs : List ℕ → List Run → List ℕ
 runs l [] = l
 runs l (r ∷ rs) = runs (sets l (r .0) (r .1)) rs
-
-pub length-runs : (l : List ℕ) (rs : List Run) → length (runs l rs) ≡ length l
-length-runs l [] = refl
-length-runs l (r ∷ rs) = length-runs (sets l (r .0) (r .1)) rs ∙ length-sets l (r .0) (r .1)
 
 -- stores up to `end` lie before every one of the runs
 abbrev pub Past : ℕ → List Run → Type 0

@@ -1,5 +1,5 @@
 -- A row of numbers: its length, its parts, the number at a place, and the stores that make it.
-use Prim.Native.Nat.{ℕ, zero, suc, _+_, _*_, _%_, _^_, _<_, _≤_}
+use Prim.Native.Nat.{ℕ, zero, suc, _+_, _*_, _%_, _^_, _<_}
 use mathlib.Core.Path.{_≡_, refl, sym, ap, _∙_}
 use mathlib.Core.List.{List, [], _∷_, _++_, append-assoc}
 use native.Mathlib.Nat.{mod-eq-of-lt, mul-suc, mul-zero}
@@ -9,7 +9,7 @@ use lib.Seq.{sets}
 use Rattle.laws.proofs.SetsLaws.{sets-append}
 use Rattle.number.specs.BigEndian.{be, enc, put}
 use Rattle.number.specs.Row.{encs}
-use Rattle.number.proofs.BigEndianLaws.{pow-pos, length-enc, be-enc, be-front, be-back, be-ext, put-left}
+use Rattle.number.proofs.BigEndianLaws.{pow-pos, length-enc, be-enc, be-front, be-back, put-left}
 
 module _ (w : ℕ) where
   pub length-encs : (vs : List ℕ) → length (encs w vs) ≡ w * length vs

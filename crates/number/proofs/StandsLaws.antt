@@ -1,7 +1,7 @@
 -- A list that stands in another from a place on: what is read of it there.
-use Prim.Native.Nat.{ℕ, suc, _+_, _*_, _%_, _^_, _<_, _≤_}
-use mathlib.Core.Path.{_≡_, refl, sym, ap, _∙_}
-use mathlib.Core.List.{List, [], _∷_, _++_}
+use Prim.Native.Nat.{ℕ, _+_, _*_, _%_, _^_, _<_, _≤_}
+use mathlib.Core.Path.{_≡_, _∙_}
+use mathlib.Core.List.{List, _++_}
 use mathlib.Core.Logic.{_⊎_}
 use native.Mathlib.Nat.{add-assoc, mul-suc, mul-le-mul-left, mod-eq-of-lt}
 use native.Mathlib.Omega.{arith}

@@ -2,7 +2,7 @@
 use Prim.Native.Nat.{_-_}
 use native.Mathlib.Omega.{arith}
 use lib.ListN.{length}
-use Rattle.format4.proofs.CountLaws.{Counting, counting-start, counting-on, counting-closed, counting-open}
+use Rattle.format4.proofs.CountLaws.{Counting, counting-start, counting-on, ending-below, counting-end}
 use borrow.Author.Needs.{needs}
 use Rattle.format4.proofs.find_segcount.Statement.{statement}
 use Rattle.format4.proofs.find_segcount.Tie as tie
@@ -62,16 +62,11 @@ finish-requires c κs = search needs
 absorb-requires-3 : tie.Need-absorb-requires-3 Inv-loop μ-loop
 absorb-requires-3 c κs = search needs
 
-write-one-range-requires : tie.Need-write-one-range-requires Inv-loop μ-loop
-write-one-range-requires c κs = search needs
+close-requires : tie.Need-close-requires Inv-loop μ-loop
+close-requires c κs = search ending-below
 
 returns : tie.Need-returns Inv-loop μ-loop
-returns c =
-    counting-closed _ _ _ _ _ _ _ (c .before .before .before .before .before .before .before .before .before .before .pre) (c .before .before .before .before .before .loop .inv) (c .before .before .before .before .loop-test .left) (c .before .before .before .finish .ensures) (c .before .before .absorb3 .ensures)
-    _ (c .before .if1 .taken) (c .write-one-range .ensures)
-
-returns-2 : tie.Need-returns-2 Inv-loop μ-loop
-returns-2 c = search counting-open
+returns c = search counting-end
 
 pub find-segcount-spec : {M : Type 1} → statement M
 find-segcount-spec =
@@ -94,6 +89,5 @@ find-segcount-spec =
     loop-again
     finish-requires
     absorb-requires-3
-    write-one-range-requires
-    returns
-    returns-2)
+    close-requires
+    returns)

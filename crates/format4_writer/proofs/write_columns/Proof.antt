@@ -3,7 +3,7 @@ use Prim.Native.Nat.{_-_}
 use mathlib.Core.Path.{_∙_}
 use native.Mathlib.Omega.{arith}
 use lib.ListN.{length}
-use Rattle.format4_writer.proofs.WalkLaws.{Writing, writing-start, writing-room, writing-on, ending-room, ended, close-room, close-yes, close-no}
+use Rattle.format4_writer.proofs.WalkLaws.{Writing, writing-start, writing-room, writing-on, ending-room, closing-room, ended-long, ended-is}
 use borrow.Author.Needs.{needs}
 use Rattle.format4_writer.proofs.write_columns.Statement.{statement}
 use Rattle.format4_writer.proofs.write_columns.Tie as tie
@@ -58,20 +58,14 @@ finish-requires c κs = search needs
 absorb-requires-3 : tie.Need-absorb-requires-3 Inv-loop μ-loop
 absorb-requires-3 c κs = ending-room _ _ _ _ _ _ _ _ (c .before .before .before .loop .inv) _ (c .before .before .loop-test .left) (c .before .finish .ensures)
 
-write-one-range-requires : tie.Need-write-one-range-requires Inv-loop μ-loop
-write-one-range-requires c κs = close-room _ _ _ _ _ _ (ended _ _ _ _ _ _ _ _ (c .before .before .before .before .before .before .before .before .loop .inv) _ (c .before .before .before .before .before .before .before .loop-test .left) (c .before .before .before .before .before .before .finish .ensures) _ _ (c .before .before .before .before .absorb3 .ensures)) (c .before .if1 .taken)
+close-requires : tie.Need-close-requires Inv-loop μ-loop
+close-requires c κs = closing-room _ _ _ _ _ _ _ _ (c .before .before .before .before .before .before .before .loop .inv) _ (c .before .before .before .before .before .before .loop-test .left) (c .before .before .before .before .before .finish .ensures) _ _ (c .before .before .before .absorb3 .ensures)
 
 same-length : tie.Need-same-length Inv-loop μ-loop
-same-length c = c .before .before .write-one-range .kept .1 .0 ∙ (ended _ _ _ _ _ _ _ _ (c .before .before .before .before .before .before .before .before .before .before .before .loop .inv) _ (c .before .before .before .before .before .before .before .before .before .before .loop-test .left) (c .before .before .before .before .before .before .before .before .before .finish .ensures) _ _ (c .before .before .before .before .before .before .before .absorb3 .ensures)) .long
+same-length c = c .before .before .close .kept .1 .0 ∙ ended-long _ _ _ _ _ _ _ _ (c .before .before .before .before .before .before .before .before .before .before .loop .inv) _ (c .before .before .before .before .before .before .before .before .before .loop-test .left) (c .before .before .before .before .before .before .before .before .finish .ensures) _ _ (c .before .before .before .before .before .before .absorb3 .ensures)
 
 returns : tie.Need-returns Inv-loop μ-loop
-returns c = c .before .before .write-one-range .ensures .1 ∙ close-yes _ _ _ _ _ _ (ended _ _ _ _ _ _ _ _ (c .before .before .before .before .before .before .before .before .before .before .before .loop .inv) _ (c .before .before .before .before .before .before .before .before .before .before .loop-test .left) (c .before .before .before .before .before .before .before .before .before .finish .ensures) _ _ (c .before .before .before .before .before .before .before .absorb3 .ensures)) (c .before .before .before .before .if1 .taken)
-
-same-length-2 : tie.Need-same-length-2 Inv-loop μ-loop
-same-length-2 c = (ended _ _ _ _ _ _ _ _ (c .before .before .before .before .before .before .before .loop .inv) _ (c .before .before .before .before .before .before .loop-test .left) (c .before .before .before .before .before .finish .ensures) _ _ (c .before .before .before .absorb3 .ensures)) .long
-
-returns-2 : tie.Need-returns-2 Inv-loop μ-loop
-returns-2 c = close-no _ _ _ _ _ _ (ended _ _ _ _ _ _ _ _ (c .before .before .before .before .before .before .before .loop .inv) _ (c .before .before .before .before .before .before .loop-test .left) (c .before .before .before .before .before .finish .ensures) _ _ (c .before .before .before .absorb3 .ensures)) (c .if1 .left)
+returns c = c .before .before .close .ensures ∙ ended-is _ _ _ _ _ _ _ _ (c .before .before .before .before .before .before .before .before .before .before .loop .inv) _ (c .before .before .before .before .before .before .before .before .before .loop-test .left) (c .before .before .before .before .before .before .before .before .finish .ensures) _ _ (c .before .before .before .before .before .before .absorb3 .ensures)
 
 pub write-columns-spec : {M : Type 1} → statement M
 write-columns-spec =
@@ -93,8 +87,6 @@ write-columns-spec =
     loop-again
     finish-requires
     absorb-requires-3
-    write-one-range-requires
+    close-requires
     same-length
-    returns
-    same-length-2
-    returns-2)
+    returns)

@@ -1,6 +1,6 @@
 -- Each of the segments committed is counted once.
-use native.Mathlib.Nat.{add-zero, add-assoc}
-use native.Mathlib.Omega.{arith}
+use mathlib.Core.List.{[], _∷_}
+use Rattle.format4.proofs.CountLaws.{adds-none, adds-then, adds-below}
 use borrow.Author.Needs.{needs}
 use Rattle.format4.proofs.RangeCounter.absorb.Statement.{statement}
 use Rattle.format4.proofs.RangeCounter.absorb.Tie as tie
@@ -21,17 +21,16 @@ write-one-range-requires-2 : tie.Need-write-one-range-requires-2
 write-one-range-requires-2 c κs = search needs
 
 write-one-range-requires-3 : tie.Need-write-one-range-requires-3
-write-one-range-requires-3 c κs = let e = c .write-one-range2 .ensures in record { segments = simp (e .0) (omega arith); glyphs = omega (arith, e .1) }
+write-one-range-requires-3 c κs = search adds-below
 
 returns : tie.Need-returns
-returns c = (simp (c .enum-told .given .1, add-zero), (omega arith, omega arith))
+returns c = rw (c .enum-told .given .1) (adds-none _)
 
 returns-2 : tie.Need-returns-2
-returns-2 c = let e = c .write-one-range .ensures in (simp (c .before .before .out .given .1, e .0, add-zero), (simp (e .0) (omega arith), omega (arith, e .1)))
+returns-2 c = rw (c .before .before .out .given .1) (c .write-one-range .ensures)
 
 returns-3 : tie.Need-returns-3
-returns-3 c = let e = c .write-one-range3 .ensures in let f = c .before .write-one-range2 .ensures in
-    (simp (c .before .before .before .out2 .given .1, e .0, f .0, add-zero, add-assoc), (simp (e .0, f .0) (omega arith), omega (arith, e .1, f .1)))
+returns-3 c = rw (c .before .before .before .out2 .given .1) (adds-then _ _ _ (_ ∷ []) (_ ∷ []) (c .before .write-one-range2 .ensures) (c .write-one-range3 .ensures))
 
 pub absorb-spec : {M : Type 1} → statement M
 absorb-spec =
