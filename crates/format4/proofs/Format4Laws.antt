@@ -1,7 +1,7 @@
 -- The lengths of a format 4 subtable's parts, and of its bytes.
 use Prim.Native.Nat.{ℕ, suc, _+_, _*_, _≤_}
 use mathlib.Core.Path.{_≡_, refl, sym, ap, _∙_}
-use mathlib.Core.List.{List, [], _∷_, _++_, map}
+use mathlib.Core.List.{List, [], _∷_, _++_}
 use mathlib.Core.Bool.{Bool, true, false}
 use native.Mathlib.Omega.{arith}
 use lib.Dec.{eqb}
@@ -12,7 +12,8 @@ use Rattle.laws.specs.Lists.{Pair, pairs}
 use Rattle.number.proofs.RowLaws.{length-encs}
 use Rattle.ranges.specs.declared.Segment.{Segment}
 use Rattle.ranges.specs.Steps.{entriesOf, entries}
-use Rattle.format4.specs.Format4.{points, segmentsOf, arrayFrom, arrayOf, glyphOf, offsetsFrom, lengthWith, header, endOf, startOf, deltaOf, numbers, format4}
+use Rattle.ranges.specs.Cutting.{arrayFrom, glyphs}
+use Rattle.format4.specs.Format4.{points, segmentsOf, arrayOf, offsetsFrom, lengthWith, header, endOf, startOf, deltaOf, numbers, format4}
 use Rattle.format4.specs.Share.{Fed}
 use Rattle.format4.proofs.WalkLaws.{array-cut}
 use Rattle.format4.proofs.CutLaws.{segments-fed, entries-fed, segments-few}
@@ -41,7 +42,7 @@ length-array gs (x ∷ xs) f =
     rw (← array-step gs x xs, length-append (take (entriesOf x) gs) (arrayFrom (drop n gs) xs), length-take-le (entriesOf x) gs (f .0), length-array (drop n gs) xs (rw (length-drop n gs) (f .2)))
 
 pub length-arrayOf : (ps : List Pair) → length (arrayOf ps) ≡ entries (segmentsOf ps)
-length-arrayOf ps = ap length (sym (array-cut ps)) ∙ length-array (map glyphOf ps) (segmentsOf ps) (rw (length-map ps glyphOf) (segments-fed ps))
+length-arrayOf ps = ap length (sym (array-cut ps)) ∙ length-array (glyphs ps) (segmentsOf ps) (rw (length-map ps (λ (p : Pair). p .1)) (segments-fed ps))
 
 pub length-format4 : (language : ℕ) (ps : List Pair) → length (format4 language ps) ≡ lengthWith (length (segmentsOf ps)) (length (arrayOf ps))
 unfolding format4 header
@@ -58,11 +59,11 @@ pub length-small : (ps : List Pair) → lengthWith (length (segmentsOf ps)) (len
 length-small ps = omega (arith, segments-few ps, length-arrayOf ps, entries-fed (segmentsOf ps) (length ps) (segments-fed ps))
 
 -- the glyphs of two columns
-pub glyphs-pairs : (cs gs : List ℕ) → length cs ≡ length gs → map glyphOf (pairs cs gs) ≡ gs
+pub glyphs-pairs : (cs gs : List ℕ) → length cs ≡ length gs → glyphs (pairs cs gs) ≡ gs
 glyphs-pairs [] [] e = refl
 glyphs-pairs [] (g ∷ gs) e = absurd (omega arith)
 glyphs-pairs (c ∷ cs) [] e = absurd (omega arith)
 glyphs-pairs (c ∷ cs) (g ∷ gs) e = ap (λ (l : List ℕ). g ∷ l) (glyphs-pairs cs gs (omega arith))
 
 pub length-pairs : (cs gs : List ℕ) → length cs ≡ length gs → length (pairs cs gs) ≡ length gs
-length-pairs cs gs e = sym (length-map (pairs cs gs) glyphOf) ∙ ap length (glyphs-pairs cs gs e)
+length-pairs cs gs e = sym (length-map (pairs cs gs) (λ (p : Pair). p .1)) ∙ ap length (glyphs-pairs cs gs e)

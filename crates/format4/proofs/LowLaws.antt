@@ -12,7 +12,8 @@ use Rattle.ranges.specs.declared.Segment.{Segment}
 use Rattle.ranges.specs.declared.Committed.{Committed}
 use Rattle.ranges.specs.declared.RangeState.{RangeState}
 use Rattle.ranges.specs.Steps.{seg, commit, toList, closing}
-use Rattle.format4.specs.Format4.{segmentsOf, arrayFrom, arrayOf, glyphOf, points}
+use Rattle.ranges.specs.Cutting.{arrayFrom, glyphs}
+use Rattle.format4.specs.Format4.{segmentsOf, arrayOf, points}
 use Rattle.format4.proofs.WalkLaws.{array-cut, commit-cases, All, Walk, segments-walk}
 
 abbrev pub LowPair : Pair → Type 0
@@ -102,12 +103,12 @@ low-array gs (x ∷ xs) l =
     by-pick LowList (eqb (x .delta) 0) (take (points x) gs ++ arrayFrom (drop (points x) gs) xs) (arrayFrom (drop (points x) gs) xs)
     (λ _. low-append (take (points x) gs) (arrayFrom (drop (points x) gs) xs) (low-take (points x) gs l) rest) (λ _. rest)
 
-low-glyphs : (ps : List Pair) → All LowPair ps → LowList (map glyphOf ps)
+low-glyphs : (ps : List Pair) → All LowPair ps → LowList (glyphs ps)
 low-glyphs [] l = tt
 low-glyphs (p ∷ ps) l = (l .0 .1, low-glyphs ps (l .1))
 
 pub array-low : (ps : List Pair) → All LowPair ps → (k : ℕ) → getD (arrayOf ps) k 0 < 65536
-array-low ps l = low-getD (arrayOf ps) (rw (array-cut ps) at (low-array (map glyphOf ps) (segmentsOf ps) (low-glyphs ps l)))
+array-low ps l = low-getD (arrayOf ps) (rw (array-cut ps) at (low-array (glyphs ps) (segmentsOf ps) (low-glyphs ps l)))
 
 -- ---- the pairs of two columns
 

@@ -11,7 +11,8 @@ use Rattle.laws.specs.Choice.{pick}
 use Rattle.number.specs.BigEndian.{be}
 use Rattle.ranges.specs.declared.Segment.{Segment}
 use Rattle.ranges.specs.Steps.{entriesOf, entries}
-use Rattle.format4.specs.Format4.{points, arrayFrom, offsetsFrom, endOf, startOf, deltaOf}
+use Rattle.ranges.specs.Cutting.{arrayFrom}
+use Rattle.format4.specs.Format4.{points, offsetsFrom, endOf, startOf, deltaOf}
 use Rattle.format4.specs.Share.{Fed}
 use Rattle.format4.proofs.Format4Laws.{array-step}
 use Rattle.format4.proofs.BytesLaws.{Reads4}

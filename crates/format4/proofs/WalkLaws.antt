@@ -1,7 +1,7 @@
 -- What holds of a walk's state from pair to pair holds of the segments that it cuts: the one induction over the steps.
 use Prim.Native.Nat.{ℕ, suc, _+_, _<_}
-use mathlib.Core.Path.{_≡_, refl, sym, subst, _∙_}
-use mathlib.Core.List.{List, [], _∷_, _++_, map}
+use mathlib.Core.Path.{_≡_, sym, subst, _∙_}
+use mathlib.Core.List.{List, [], _∷_, _++_}
 use mathlib.Core.Bool.{Bool, true, not}
 use native.Mathlib.Omega.{arith}
 use lib.Dec.{eqb}
@@ -17,17 +17,20 @@ use Rattle.ranges.specs.declared.Absorbed.{Absorbed}
 use Rattle.ranges.specs.declared.Finished.{Finished}
 use Rattle.ranges.specs.declared.RangeState.{RangeState}
 use Rattle.ranges.specs.Steps.{idle, begun, grown, turned, costOf, pays, commit, whole, splits, earlier, theRun, absorbed, step, finish, toList, closing, cutFrom}
-use Rattle.format4.specs.Format4.{segmentsOf, arrayFrom, arrayOf, glyphOf}
+use Rattle.ranges.specs.Cutting.{glyphs, arrayFrom}
+use Rattle.ranges.proofs.WalkLaws.{walk-cuts}
+use Rattle.ranges.proofs.CuttingLaws.{array-from}
+use Rattle.format4.specs.Format4.{segmentsOf, arrayOf}
 
 -- the walk's cut is the definition's
 pub segments-cut : (ps : List Pair) → cutFrom idle ps ≡ segmentsOf ps
 unfolding segmentsOf
-segments-cut ps = refl
+segments-cut ps = sym (walk-cuts ps)
 
 -- so is the array of its segments
-pub array-cut : (ps : List Pair) → arrayFrom (map glyphOf ps) (segmentsOf ps) ≡ arrayOf ps
-unfolding arrayOf
-array-cut ps = refl
+pub array-cut : (ps : List Pair) → arrayFrom (glyphs ps) (segmentsOf ps) ≡ arrayOf ps
+unfolding segmentsOf arrayOf
+array-cut ps = array-from ps
 
 -- a commit is one of three
 pub commit-cases : (Q : Committed → Type 0) (s : RangeState) (cost : ℕ) → Q (One (whole s (s .delta))) → (s .start < s .run → Q (Two (earlier s) (theRun s))) → Q (One (whole s 0))

@@ -2,33 +2,27 @@
 use Prim.Native.Nat.{ℕ, zero, suc, _+_, _-_, _*_, _/_, _^_}
 use mathlib.Core.List.{List, [], _∷_, _++_, map}
 use lib.Dec.{eqb, ltb}
-use lib.ListN.{length, take, drop}
+use lib.ListN.{length}
 use Rattle.laws.specs.Choice.{pick}
 use Rattle.laws.specs.Lists.{Pair}
 use Rattle.number.specs.Row.{encs}
 use Rattle.ranges.specs.declared.Segment.{Segment}
-use Rattle.ranges.specs.Steps.{idle, cutFrom, entriesOf}
+use Rattle.ranges.specs.Steps.{entriesOf}
+use Rattle.ranges.specs.Cutting.{segments, glyphArray}
 
 -- the segments that the pairs are cut into, the closing one with them
 unfoldable pub segmentsOf : List Pair → List Segment
-segmentsOf ps = cutFrom idle ps
+unfolding segments
+segmentsOf ps = segments ps
 
 -- how many code points a segment has
 abbrev pub points : Segment → ℕ
 points x = x .end + 1 - x .start
 
--- "Delta 0 means glyph array": a segment takes a glyph for each of its points, and those of a segment of delta 0 stand in the array
-unfoldable pub arrayFrom : List ℕ → List Segment → List ℕ
-arrayFrom gs [] = []
-arrayFrom gs (x ∷ xs) = pick (eqb (x .delta) 0) (take (points x) gs ++ arrayFrom (drop (points x) gs) xs) (arrayFrom (drop (points x) gs) xs)
-
-abbrev pub glyphOf : Pair → ℕ
-glyphOf p = p .1
-
--- the glyph array
+-- their glyph array
 unfoldable pub arrayOf : List Pair → List ℕ
-unfolding segmentsOf arrayFrom
-arrayOf ps = arrayFrom (map glyphOf ps) (segmentsOf ps)
+unfolding glyphArray
+arrayOf ps = glyphArray ps
 
 -- the range offsets, where `before` entries of the array stand before the first of these segments: how many bytes it is from the offset
 -- itself to the segment's first entry, over the offsets that follow and those entries; 0 for a segment with a delta

@@ -14,7 +14,8 @@ use Rattle.number.proofs.BigEndianLaws.{length-put}
 use Rattle.number.proofs.RowLaws.{put-one, length-encs, encs-append, encs-then, put-encs}
 use Rattle.ranges.specs.declared.Segment.{Segment}
 use Rattle.ranges.specs.Steps.{entriesOf}
-use Rattle.format4.specs.Format4.{floorLog2, points, arrayFrom, offsetsFrom, header, endOf, startOf, deltaOf, numbers}
+use Rattle.ranges.specs.Cutting.{arrayFrom}
+use Rattle.format4.specs.Format4.{floorLog2, points, offsetsFrom, header, endOf, startOf, deltaOf, numbers}
 use Rattle.format4.specs.Share.{Fed}
 use Rattle.format4.proofs.Format4Laws.{length-offsets, array-step}
 use Rattle.format4_writer.specs.declared.RangeWriter.{RangeWriter}

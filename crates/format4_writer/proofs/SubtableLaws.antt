@@ -8,7 +8,8 @@ use lib.Seq.{sets}
 use Rattle.laws.specs.Lists.{pairs}
 use Rattle.ranges.specs.Steps.{entries}
 use Rattle.format4.specs.declared.RangeCounter.{RangeCounter}
-use Rattle.format4.specs.Format4.{segmentsOf, arrayFrom, arrayOf, format4}
+use Rattle.ranges.specs.Cutting.{arrayFrom}
+use Rattle.format4.specs.Format4.{segmentsOf, arrayOf, format4}
 use Rattle.format4.specs.Share.{Fed}
 use Rattle.format4.specs.Size.{Columns, lengthOf}
 use Rattle.format4.proofs.WalkLaws.{array-cut}

@@ -11,7 +11,8 @@ use Rattle.number.specs.BigEndian.{put}
 use Rattle.number.specs.Row.{encs}
 use Rattle.ranges.specs.declared.Segment.{Segment}
 use Rattle.ranges.specs.Steps.{entriesOf, entries}
-use Rattle.format4.specs.Format4.{points, floorLog2, header, endOf, startOf, deltaOf, offsetsFrom, arrayFrom}
+use Rattle.ranges.specs.Cutting.{arrayFrom}
+use Rattle.format4.specs.Format4.{points, floorLog2, header, endOf, startOf, deltaOf, offsetsFrom}
 use Rattle.format4.specs.Share.{Fed}
 use Rattle.format4_writer.specs.declared.Log.{Log}
 use Rattle.format4_writer.specs.declared.RangeWriter.{RangeWriter}
