@@ -17,26 +17,20 @@ use Rattle.number.proofs.RowLaws.{be-encs-fits}
 use Rattle.ranges.specs.declared.Segment.{Segment}
 use Rattle.ranges.specs.Steps.{entriesOf, entries}
 use Rattle.ranges.specs.Cutting as cutting
-use Rattle.ranges.proofs.CuttingLaws.{array-from}
-use Rattle.ranges.proofs.WalkLaws.{walk-cuts}
 use Rattle.source.specs.Fields.{endCode, startCode, idDelta, idRangeOffset, glyphIdArray}
-use Rattle.format4.specs.Format4.{segmentsOf, arrayFrom, arrayOf, offsetsFrom, header, endOf, startOf, deltaOf, columns, numbers, format4}
+use Rattle.format4.specs.Format4.{segmentsOf, arrayOf, offsetsFrom, header, endOf, startOf, deltaOf, columns, numbers, format4}
 use Rattle.format4.proofs.Format4Laws.{length-offsets}
 use Rattle.cut_lookup.proofs.FitsLaws.{SegmentFits, Low}
 
 -- ---- the subtable's numbers are those of the cutting
 
 pub segments-are : (ps : List Pair) → segmentsOf ps ≡ cutting.segments ps
-unfolding segmentsOf
-segments-are ps = sym (walk-cuts ps)
-
-array-same : (gs : List ℕ) (ss : List Segment) → arrayFrom gs ss ≡ cutting.arrayFrom gs ss
-unfolding arrayFrom cutting.arrayFrom
-array-same gs [] = refl
-array-same gs (x ∷ xs) = rw (array-same _ xs)
+unfolding segmentsOf cutting.segments
+segments-are ps = refl
 
 pub array-is : (ps : List Pair) → arrayOf ps ≡ cutting.glyphArray ps
-array-is ps = rw (segments-are ps, array-same (cutting.glyphs ps) (cutting.segments ps)) (array-from ps)
+unfolding arrayOf cutting.glyphArray
+array-is ps = refl
 
 pub format4-numbers : (language : ℕ) (ps : List Pair) → format4 language ps ≡ encs 2 (numbers language (cutting.segments ps) (cutting.glyphArray ps))
 unfolding format4
