@@ -4,3 +4,4 @@ pub mod RowsLaws
 pub mod LoopLaws
 pub mod WholeLaws
 pub mod Format14Cases
+pub mod OffsetsLaws

@@ -2,7 +2,7 @@
 use Prim.Native.Nat.{ℕ, zero, suc, _+_, _-_, _*_, _/_, _%_, _<_, _≤_}
 use mathlib.Core.Path.{_≡_, refl, sym, ap, _∙_}
 use mathlib.Core.List.{List, [], _∷_, _++_, map}
-use mathlib.Core.Bool.{Bool, true, false}
+use mathlib.Core.Bool.{true}
 use native.Mathlib.Omega.{arith}
 use lib.Dec.{ltb}
 use lib.ListN.{length, getD}
@@ -10,9 +10,11 @@ use borrow.Author.Tests.{eq-eqb, ne-eqb, lt-ltb, le-ltb}
 use Rattle.laws.specs.Choice.{pick, both, either}
 use Rattle.laws.specs.Select.{each, select, flat}
 use Rattle.laws.specs.Lasts.{lasts, behind}
-use Rattle.laws.proofs.ChoiceLaws.{by-leb, false-true, both-left}
+use Rattle.laws.proofs.ChoiceLaws.{by-leb, both-left}
 use Rattle.laws.proofs.LastsLaws.{by-test}
+use Rattle.laws.proofs.FlatLaws.{flat-map, flat-select}
 use Rattle.laws.proofs.LengthLaws.{length-map}
+use Rattle.laws.proofs.EitherLaws.{neither-left, neither-right}
 use Rattle.format14.specs.Format14.{Row, rowOf, rowsOf, rows, used, there, one, tables, written, offsetOf, rowBytes, lengthOf}
 use Rattle.format14.specs.Ends.{from, Written, Ends}
 use Rattle.selector_tables.specs.Selectors.{Given, keepsSelector, defaultTable, nonDefaultTable, selectorRecords}
@@ -20,38 +22,13 @@ use Rattle.selector_tables.specs.ByNumber.{slot}
 use Rattle.selector_records.specs.SelectorRecords.{usedAt, usedRecords, offsetFor, recordBytes, recordAt}
 use Rattle.format14.proofs.SlotsLaws.{there-some, there-none, behind-missing, behind-there, before-there}
 
-either-left : (a b : Bool) → either a b ≡ false → a ≡ false
-either-left true b e = e
-either-left false b e = refl
-
-either-right : (a b : Bool) → either a b ≡ false → b ≡ false
-either-right true b e = absurd (false-true (sym e))
-either-right false b e = e
-
 -- a row with neither table has none to give
 tables-used : (r : Row) (rs : List Row) → tables (pick (used r) (r ∷ rs) rs) ≡ one (r .defaultUVS) ++ (one (r .nonDefaultUVS) ++ tables rs)
 unfolding tables used
 tables-used r rs =
     by-test (tables (pick (used r) (r ∷ rs) rs) ≡ one (r .defaultUVS) ++ (one (r .nonDefaultUVS) ++ tables rs)) (used r)
     (λ e. ap (λ u. tables (pick u (r ∷ rs) rs)) e)
-    (λ e. ap (λ u. tables (pick u (r ∷ rs) rs)) e ∙ rw (either-left (there (r .defaultUVS)) (there (r .nonDefaultUVS)) e, either-right (there (r .defaultUVS)) (there (r .nonDefaultUVS)) e))
-
--- ---- lists made of selected places
-
-flat-map : {A B C : Type 0} (w : B → List C) (f : A → B) (xs : List A) → flat w (map f xs) ≡ flat (λ x. w (f x)) xs
-unfolding flat
-flat-map w f [] = refl
-flat-map w f (x ∷ xs) = ap (λ r. w (f x) ++ r) (flat-map w f xs)
-
-flat-select : (v w : ℕ → List ℕ) (q : ℕ → Bool) (n k : ℕ) → ((i : ℕ) → k ≤ i → i < k + n → q i ≡ true → v i ≡ w i)
-    → flat v (select q (each (λ i. i) n k)) ≡ flat w (select q (each (λ i. i) n k))
-unfolding flat select each
-flat-select v w q zero k h = refl
-flat-select v w q (suc n) k h =
-    let r = flat-select v w q n (k + 1) (λ i a b. h i (omega arith) (omega arith)) in
-    by-test (flat v (select q (each (λ i. i) (suc n) k)) ≡ flat w (select q (each (λ i. i) (suc n) k))) (q k)
-    (λ e. rw (e, h k (omega arith) (omega arith) e) (ap (λ l. w k ++ l) r))
-    (λ e. rw e r)
+    (λ e. ap (λ u. tables (pick u (r ∷ rs) rs)) e ∙ rw (neither-left (there (r .defaultUVS)) (there (r .nonDefaultUVS)) e, neither-right (there (r .defaultUVS)) (there (r .nonDefaultUVS)) e))
 
 module _ (g : Given) where
   pub slot-even : (k : ℕ) → slot g (2 * k) ≡ pick (keepsSelector g k) (defaultTable g k) []

@@ -59,7 +59,7 @@ unfolding sizeOf
 size-some [] h = absurd (h refl)
 size-some (r ∷ rs) h = refl
 
-row-size : (rs : List Row) (r : Row) → length (rowBytes rs r) ≡ 11
+pub row-size : (rs : List Row) (r : Row) → length (rowBytes rs r) ≡ 11
 row-size rs r = rw (length-append, length-append, length-enc 3 (r .selector), length-enc 4 (offsetOf rs (r .defaultUVS)), length-enc 4 (offsetOf rs (r .nonDefaultUVS)))
 
 -- ---- what it says of the subtable
@@ -152,7 +152,7 @@ serialize-room g n ends count total place out p h = rw (total-rows g n ends coun
 
 -- ---- what an outcome says
 
-tag : Outcome → ℕ
+abbrev tag : Outcome → ℕ
 tag Refused8 = 0
 tag Empty = 1
 tag (Length n) = 2
@@ -163,14 +163,14 @@ unfolding outcome
 outcome-says g n e =
     by-test (n ≡ length (format14 (rows g))) (refused8 g)
     (λ r.
-        let wrong = ap tag (rw r at e) in
-        absurd (omega (arith, wrong)))
+    let wrong = ap tag (rw r at e) in
+    absurd (omega (arith, wrong)))
     (λ r. rows-says (rows g) n (rw r at e))
   where
     rows-says : (rs : List Row) (n : ℕ) → Length n ≡ sizeOf rs → n ≡ length (format14 rs)
     rows-says rs n e =
         by-leb (n ≡ length (format14 rs)) (length rs) 0
         (λ h.
-            let wrong = ap tag (e ∙ size-none rs (omega arith)) in
-            absurd (omega (arith, wrong)))
+        let wrong = ap tag (e ∙ size-none rs (omega arith)) in
+        absurd (omega (arith, wrong)))
         (λ h. ap lengthIn (e ∙ size-some rs (λ z. omega arith)) ∙ sym (length-format14 rs))

@@ -1,7 +1,7 @@
--- Tests joined by "or": where the whole fails, each part does.
+-- Tests joined: what is told where the whole fails.
 use mathlib.Core.Path.{_≡_, refl, sym}
 use mathlib.Core.Bool.{Bool, true, false, not}
-use Rattle.laws.specs.Choice.{either}
+use Rattle.laws.specs.Choice.{both, either}
 use Rattle.laws.proofs.ChoiceLaws.{false-true}
 
 pub not-false : (b : Bool) → (b ≡ false → ⊥) → b ≡ true
@@ -19,3 +19,7 @@ neither-left false b e = refl
 pub neither-right : (a b : Bool) → either a b ≡ false → b ≡ false
 neither-right true b e = absurd (false-true (sym e))
 neither-right false b e = e
+
+pub both-none : (a b c : Bool) → both a b ≡ false → both a (both b c) ≡ false
+both-none true b c e = rw e
+both-none false b c e = refl

@@ -4,7 +4,8 @@ use mathlib.Core.Path.{_≡_, refl, sym, ap, _∙_}
 use mathlib.Core.List.{List, [], _∷_}
 use mathlib.Core.Bool.{Bool, true, false}
 use native.Mathlib.Omega.{arith}
-use lib.ListN.{length, length-append}
+use lib.ListN.{length, take, drop, length-append}
+use lib.Seq.{take-append-seam, drop-append-add}
 use Rattle.laws.specs.Pieces.{concat}
 use Rattle.laws.specs.Select.{anyOf, eqList}
 use Rattle.laws.specs.Lasts.{among, lasts, before, behind}
@@ -127,3 +128,14 @@ length-behind t (u ∷ us) e =
     by-test (length t ≤ behind t (u ∷ us)) (eqList t u)
     (λ q. rw (behind-here t u us q, eq-true t u q) (omega arith))
     (λ q. rw (behind-skip t u us q) (length-behind t us (sym (among-skip t u us q) ∙ e)))
+
+-- what stands before t in a row of byte strings is as long as told
+pub take-before : (t : List ℕ) (us : List (List ℕ)) → among t us ≡ true → take (length t) (drop (before t us) (concat us)) ≡ t
+unfolding before concat
+take-before t [] e = absurd (false-true (sym (among-none t) ∙ e))
+take-before t (u ∷ us) e =
+    by-test (take (length t) (drop (before t (u ∷ us)) (concat (u ∷ us))) ≡ t) (eqList t u)
+    (λ q.
+    let same = eq-true t u q in
+    rw (q, same) (take-append-seam u (concat us)))
+    (λ q. rw (q, drop-append-add u (concat us) (before t us)) (take-before t us (sym (among-skip t u us q) ∙ e)))

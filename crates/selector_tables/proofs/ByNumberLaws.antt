@@ -12,6 +12,7 @@ use Rattle.laws.specs.Choice.{both}
 use Rattle.laws.specs.Select.{eqList}
 use Rattle.laws.proofs.ChoiceLaws.{both-left, both-right, by-leb}
 use Rattle.laws.proofs.EqListLaws.{eq-true}
+use Rattle.laws.proofs.EitherLaws.{both-none}
 use Rattle.laws.proofs.LastsLaws.{by-test}
 use Rattle.marks.specs.Marks.{holds}
 use Rattle.number.specs.BigEndian.{be, Num}
@@ -68,10 +69,6 @@ module _ (xs : List ℕ) (at len : ℕ) (kept : List ℕ) (t : ℕ) (x : ℕ) (b
 pub ruleset source-rules = (source-dropped, source-counts, source-uncounted)
 
 -- ---- what stands there
-
-both-none : (a b c : Bool) → both a b ≡ false → both a (both b c) ≡ false
-both-none true b c e = rw e
-both-none false b c e = refl
 
 -- a table of a kept selector that counts
 pub record Found (xs : List ℕ) (at len : ℕ) (kept : List ℕ) (t off : ℕ) : Type 0 where
