@@ -8,7 +8,7 @@ ghost use Rattle.laws.specs.Select.{eqList};
 ghost use Rattle.number.specs.BigEndian.{be};
 ghost use Rattle.selector_tables.specs.Selectors.{given};
 ghost use Rattle.selector_tables.specs.ByNumber.{slot, Readable, Numbered};
-ghost use Rattle.format14.specs.Format14.{refused8, rows, lengthOf, format14, outcome};
+ghost use Rattle.format14.specs.Format14.{refused8, rows, lengthOf, format14, outcome, lengthIn};
 ghost use Rattle.format14.specs.Ends.{laterEqual, Written, Lengths, Ends, All, Stops, Sizes, Total, Planned, endsAt};
 
 // What becomes of a format 14 subtable: refusal 8, nothing left to write, or the length of the new one.
@@ -314,6 +314,7 @@ pub fn size(
 ) -> Outcome
     requires { ⌜ Readable (now s) at len (now kept) (now requested) ⌝ }
     ensures { λ r. ⌜ r ≡ outcome (given (now (s .entry)) at len (now (kept .entry)) (now (map .entry)) (now (requested .entry))) ⌝ }
+    ensures { λ r. ⌜ lengthIn r < 4294967296 ⌝ }
 {
     if refuses(s, at, len, kept, map, requested) {
         return Outcome::Refused8;

@@ -1,9 +1,10 @@
 -- What becomes of each record, and what refusals 8 and 9 ask of it (docs/01-rules.md, "Records" and "Numbers of refusal").
-use Prim.Native.Nat.{ℕ, zero, suc}
+use Prim.Native.Nat.{ℕ, zero, suc, _≤_, _<_}
+use mathlib.Core.Path.{_≡_}
 use mathlib.Core.List.{List, []}
 use mathlib.Core.Bool.{Bool, true, false, not}
 use lib.Dec.{ltb, eqb}
-use lib.ListN.{getD, set, replicate}
+use lib.ListN.{length, getD, set, replicate}
 use Rattle.laws.specs.Choice.{pick, both, either}
 use Rattle.laws.specs.Lists.{Pair}
 use Rattle.laws.specs.Search.{first, some}
@@ -16,6 +17,7 @@ use Rattle.records.specs.Records.{leadsTo, leadsToFormat, retained}
 use Rattle.listing.specs.Job.{Job, glyphCount}
 use Rattle.listing.specs.Listing.{listed}
 use Rattle.covering.specs.Covered.{covered}
+use Rattle.format4.specs.declared.RangeCounter.{RangeCounter}
 use Rattle.format4.specs.declared.Size.{Size}
 use Rattle.format4.specs.declared.Size.the-variants.{Empty as Empty4, TooLong as TooLong4, Fits}
 use Rattle.format4.specs.Format4.{format4}
@@ -75,6 +77,7 @@ fresh j k = freshAs (leadsTo (j .source) k) j k
 
 -- ---- what serves a record
 
+-- the record made a table
 abbrev pub isMade : Outcome → Bool
 isMade NotRetained = false
 isMade Skipped = false
@@ -84,6 +87,17 @@ isMade Covered = false
 isMade BadMapping = false
 isMade (Served by) = false
 isMade (Made size) = true
+
+-- the length of the table that the record made; 0 where it made none
+abbrev pub sizeOf : Outcome → ℕ
+sizeOf NotRetained = 0
+sizeOf Skipped = 0
+sizeOf Empty = 0
+sizeOf TooLong = 0
+sizeOf Covered = 0
+sizeOf BadMapping = 0
+sizeOf (Served by) = 0
+sizeOf (Made size) = size
 
 -- a table that record r made, of record k's format
 unfoldable pub serves : List ℕ → List Outcome → ℕ → ℕ → Bool
@@ -129,3 +143,17 @@ counts xs os k = both (isMade (getD os k NotRetained)) (either (leadsToFormat 4 
 -- none did
 unfoldable pub refused9 : List ℕ → List Outcome → Bool
 refused9 xs os = not (some (counts xs os) (recordCount xs) 0)
+
+-- ---- bounds
+
+-- a table's length, with room to add up those of all records
+pub record Short (o : Outcome) : Type 0 where
+  pub below : sizeOf o < 4294967296
+
+pub record Small (os : List Outcome) : Type 0 where
+  pub all : length os ≡ recordsMax
+  pub each : (k : ℕ) → Short (getD os k NotRetained)
+
+-- a format 4 size that was found is a length of 16 bits
+pub record Short4 (size : Size) : Type 0 where
+  pub fits : (n : RangeCounter) → size ≡ Fits n → lengthOf4 n ≤ 65535

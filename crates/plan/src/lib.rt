@@ -3,8 +3,9 @@ use source::Kind;
 ghost use mathlib.Core.Path.{_≡_};
 ghost use Prim.Native.Nat.{_<_};
 ghost use lib.ListN.{getD};
+ghost use Rattle.format14.specs.Format14.{lengthIn};
 ghost use Rattle.records.specs.Records.{Placed};
-ghost use Rattle.plan.specs.Plan.{by4, by14, isMade, isBad, serves};
+ghost use Rattle.plan.specs.Plan.{by4, by14, isMade, isBad, serves, Short, Short4};
 
 // Served holds the record whose table serves, Made the length of the record's own table.
 pub enum Outcome {
@@ -19,7 +20,8 @@ pub enum Outcome {
 }
 
 fn of_size4(size: format4::Size) -> Outcome
-    ensures { λ r. ⌜ r ≡ by4 size ⌝ }
+    requires { ⌜ Short4 size ⌝ }
+    ensures { λ r. ⌜ (r ≡ by4 size) × Short r ⌝ }
 {
     match size {
         format4::Size::Empty => Outcome::Empty,
@@ -29,7 +31,8 @@ fn of_size4(size: format4::Size) -> Outcome
 }
 
 fn of_outcome14(outcome: format14::Outcome) -> Outcome
-    ensures { λ r. ⌜ r ≡ by14 outcome ⌝ }
+    requires { ⌜ lengthIn outcome < 4294967296 ⌝ }
+    ensures { λ r. ⌜ (r ≡ by14 outcome) × Short r ⌝ }
 {
     match outcome {
         format14::Outcome::Refused8 => Outcome::BadMapping,

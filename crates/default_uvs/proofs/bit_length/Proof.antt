@@ -5,8 +5,6 @@ use Prim.Native.Nat.{_-_}
 use Rattle.default_uvs.proofs.BitsLaws.{Doubling, doubling-start, doubling-less, doubling-on, doubling-end}
 use Rattle.default_uvs.proofs.bit_length.Statement.{statement}
 use Rattle.default_uvs.proofs.bit_length.Tie as tie
-use Rattle.default_uvs.proofs.bit_length.Reads as reads
-use Rattle.default_uvs.proofs.bit_length.Lts as lts
 
 abbrev Inv-loop : tie.InvT-loop
 Inv-loop r b₀ power₀ b power = Doubling r b power
@@ -14,27 +12,21 @@ Inv-loop r b₀ power₀ b power = Doubling r b power
 abbrev μ-loop : tie.MeasureT-loop
 μ-loop r b₀ power₀ b power = r - b
 
--- src/lib.rt:17:5
 loop-holds : tie.Need-loop-holds Inv-loop μ-loop
 loop-holds c = doubling-start _
 
--- src/lib.rt:18:9
 mul-power : tie.Need-mul-power Inv-loop μ-loop
 mul-power c = search needs
 
--- src/lib.rt:19:9
 add-b : tie.Need-add-b Inv-loop μ-loop
 add-b c = search needs
 
--- src/lib.rt:17:5
 loop-less : tie.Need-loop-less Inv-loop μ-loop
 loop-less c = omega (arith, doubling-less _ _ _ (c .before .loop .inv) (c .loop-test .taken))
 
--- src/lib.rt:17:5
 loop-again : tie.Need-loop-again Inv-loop μ-loop
 loop-again c = search doubling-on
 
--- src/lib.rt:12:1
 returns : tie.Need-returns Inv-loop μ-loop
 returns c = let e = doubling-end _ _ _ (c .before .loop .inv) (c .loop-test .left) in (e .0, omega (arith, e .1))
 

@@ -1,34 +1,24 @@
 -- The byte of the points behind is written right behind the start.
-use native.Mathlib.Omega.{arith}
 use Rattle.default_uvs.proofs.StreamLaws.{range-is}
 use borrow.Author.Needs.{needs}
 use Rattle.default_uvs.proofs.copy_range.Statement.{statement}
 use Rattle.default_uvs.proofs.copy_range.Tie as tie
-use Rattle.default_uvs.proofs.copy_range.Reads as reads
-use Rattle.default_uvs.proofs.copy_range.Lts as lts
-use Rattle.number.proofs.put_u24.Reads as put-u24-reads
 
--- src/lib.rt:131:5
 put-u24-requires : tie.Need-put-u24-requires
 put-u24-requires c κs = search needs
 
--- src/lib.rt:132:19
 cast-out : tie.Need-cast-out
 cast-out c = search needs
 
--- src/lib.rt:132:9
 add-out : tie.Need-add-out
 add-out c = search needs
 
--- src/lib.rt:132:5
 slice-write-out : tie.Need-slice-write-out
 slice-write-out c = search needs
 
--- src/lib.rt:127:1
 same-length : tie.Need-same-length
 same-length c = search needs
 
--- src/lib.rt:127:1
 returns : tie.Need-returns
 returns c = search range-is
 

@@ -6,8 +6,6 @@ use Prim.Native.Nat.{_-_}
 use Rattle.default_uvs.proofs.StreamLaws.{Seeking, seeking}
 use Rattle.default_uvs.proofs.next_point.Statement.{statement}
 use Rattle.default_uvs.proofs.next_point.Tie as tie
-use Rattle.default_uvs.proofs.next_point.Reads as reads
-use Rattle.default_uvs.proofs.next_point.Lts as lts
 
 abbrev Inv-loop : tie.InvT-loop
 Inv-loop kept flags i j₀ j = Seeking kept flags i j
@@ -15,31 +13,24 @@ Inv-loop kept flags i j₀ j = Seeking kept flags i j
 abbrev μ-loop : tie.MeasureT-loop
 μ-loop kept flags i j₀ j = length kept - j
 
--- src/lib.rt:48:5
 loop-holds : tie.Need-loop-holds Inv-loop μ-loop
 loop-holds c = search (needs, seeking)
 
--- src/lib.rt:49:12
 shared-slice-read-if1 : tie.Need-shared-slice-read-if1 Inv-loop μ-loop
 shared-slice-read-if1 c = search needs
 
--- src/lib.rt:50:13
 returns : tie.Need-returns Inv-loop μ-loop
 returns c = search (needs, seeking)
 
--- src/lib.rt:52:9
 add-j : tie.Need-add-j Inv-loop μ-loop
 add-j c = search needs
 
--- src/lib.rt:48:5
 loop-less : tie.Need-loop-less Inv-loop μ-loop
 loop-less c = omega arith
 
--- src/lib.rt:48:5
 loop-again : tie.Need-loop-again Inv-loop μ-loop
 loop-again c = search (needs, seeking)
 
--- src/lib.rt:43:1
 returns-2 : tie.Need-returns-2 Inv-loop μ-loop
 returns-2 c = search (needs, seeking)
 

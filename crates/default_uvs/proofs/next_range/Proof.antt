@@ -6,10 +6,6 @@ use Prim.Native.Nat.{_-_}
 use Rattle.default_uvs.proofs.StreamLaws.{Taking, taking}
 use Rattle.default_uvs.proofs.next_range.Statement.{statement}
 use Rattle.default_uvs.proofs.next_range.Tie as tie
-use Rattle.default_uvs.proofs.next_range.Reads as reads
-use Rattle.default_uvs.proofs.next_range.Lts as lts
-use Rattle.default_uvs.proofs.follows.Reads as follows-reads
-use Rattle.default_uvs.proofs.next_point.Reads as next-point-reads
 
 abbrev Inv-loop : tie.InvT-loop
 Inv-loop kept flags i most start additional₀ next₀ additional next = Taking most kept flags i additional next
@@ -17,67 +13,51 @@ Inv-loop kept flags i most start additional₀ next₀ additional next = Taking 
 abbrev μ-loop : tie.MeasureT-loop
 μ-loop kept flags i most start additional₀ next₀ additional next = length kept - next
 
--- src/lib.rt:93:17
 mul-start : tie.Need-mul-start Inv-loop μ-loop
 mul-start c = search needs
 
--- src/lib.rt:93:17
 shared-slice-read-start : tie.Need-shared-slice-read-start Inv-loop μ-loop
 shared-slice-read-start c = search needs
 
--- src/lib.rt:95:44
 add-next-point : tie.Need-add-next-point Inv-loop μ-loop
 add-next-point c = search needs
 
--- src/lib.rt:95:9
 next-point-requires : tie.Need-next-point-requires Inv-loop μ-loop
 next-point-requires c κs = search needs
 
--- src/lib.rt:96:5
 loop-holds : tie.Need-loop-holds Inv-loop μ-loop
 loop-holds c = search taking
 
--- src/lib.rt:98:13
 returns : tie.Need-returns Inv-loop μ-loop
 returns c = search taking
 
--- src/lib.rt:100:39
 mul-follows : tie.Need-mul-follows Inv-loop μ-loop
 mul-follows c = search needs
 
--- src/lib.rt:100:39
 shared-slice-read-follows : tie.Need-shared-slice-read-follows Inv-loop μ-loop
 shared-slice-read-follows c = search needs
 
--- src/lib.rt:100:12
 follows-requires : tie.Need-follows-requires Inv-loop μ-loop
 follows-requires c κs = search needs
 
--- src/lib.rt:101:13
 add-additional : tie.Need-add-additional Inv-loop μ-loop
 add-additional c = search needs
 
--- src/lib.rt:102:44
 add-next-point-2 : tie.Need-add-next-point-2 Inv-loop μ-loop
 add-next-point-2 c = search needs
 
--- src/lib.rt:102:13
 next-point-requires-2 : tie.Need-next-point-requires-2 Inv-loop μ-loop
 next-point-requires-2 c κs = search needs
 
--- src/lib.rt:96:5
 loop-less : tie.Need-loop-less Inv-loop μ-loop
 loop-less c = omega arith
 
--- src/lib.rt:96:5
 loop-again : tie.Need-loop-again Inv-loop μ-loop
 loop-again c = search taking
 
--- src/lib.rt:104:13
 returns-2 : tie.Need-returns-2 Inv-loop μ-loop
 returns-2 c = search taking
 
--- src/lib.rt:89:1
 returns-3 : tie.Need-returns-3 Inv-loop μ-loop
 returns-3 c = search taking
 

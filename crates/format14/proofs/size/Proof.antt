@@ -8,7 +8,7 @@ refuses-requires : tie.Need-refuses-requires
 refuses-requires c κs = search needs
 
 returns : tie.Need-returns
-returns c = search outcomes
+returns c = (search outcomes, search needs)
 
 add-u32-at : tie.Need-add-u32-at
 add-u32-at c = search needs
@@ -26,10 +26,10 @@ plan-tables-requires : tie.Need-plan-tables-requires
 plan-tables-requires c κs = search needs
 
 returns-2 : tie.Need-returns-2
-returns-2 c = search outcomes
+returns-2 c = (search outcomes, search needs)
 
 returns-3 : tie.Need-returns-3
-returns-3 c = search outcomes
+returns-3 c = (search outcomes, search needs)
 
 pub size-spec : {M : Type 1} → statement M
 size-spec =

@@ -7,10 +7,6 @@ use Rattle.uvs.specs.NonDefault.{mappingAt, keepsMapping}
 use Rattle.laws.proofs.SelectLaws.{Counting, counting}
 use Rattle.non_default_uvs.proofs.count_mappings.Statement.{statement}
 use Rattle.non_default_uvs.proofs.count_mappings.Tie as tie
-use Rattle.non_default_uvs.proofs.count_mappings.Reads as reads
-use Rattle.non_default_uvs.proofs.count_mappings.Lts as lts
-use Rattle.non_default_uvs.proofs.keeps_mapping.Reads as keeps-mapping-reads
-use Rattle.number.proofs.u32_at.Reads as u32-at-reads
 
 abbrev Inv-loop : tie.InvT-loop
 Inv-loop s p kept requested m i₀ n₀ i n = Counting (keepsMapping kept requested) (mappingAt s p) m i n
@@ -18,59 +14,45 @@ Inv-loop s p kept requested m i₀ n₀ i n = Counting (keepsMapping kept reques
 abbrev μ-loop : tie.MeasureT-loop
 μ-loop s p kept requested m i₀ n₀ i n = m - i
 
--- src/lib.rt:67:13
 u32-at-requires : tie.Need-u32-at-requires Inv-loop μ-loop
 u32-at-requires c κs = search needs
 
--- src/lib.rt:67:13
 cast-m : tie.Need-cast-m Inv-loop μ-loop
 cast-m c = search needs
 
--- src/lib.rt:70:5
 loop-holds : tie.Need-loop-holds Inv-loop μ-loop
 loop-holds c = search counting
 
--- src/lib.rt:71:38
 add-keeps-mapping : tie.Need-add-keeps-mapping Inv-loop μ-loop
 add-keeps-mapping c = search needs
 
--- src/lib.rt:71:46
 mul-keeps-mapping : tie.Need-mul-keeps-mapping Inv-loop μ-loop
 mul-keeps-mapping c = search needs
 
--- src/lib.rt:71:38
 add-keeps-mapping-2 : tie.Need-add-keeps-mapping-2 Inv-loop μ-loop
 add-keeps-mapping-2 c = search needs
 
--- src/lib.rt:71:13
 keeps-mapping-requires : tie.Need-keeps-mapping-requires Inv-loop μ-loop
 keeps-mapping-requires c κs = search needs
 
--- src/lib.rt:72:9
 add-i : tie.Need-add-i Inv-loop μ-loop
 add-i c = search needs
 
--- src/lib.rt:74:13
 add-n : tie.Need-add-n Inv-loop μ-loop
 add-n c = search needs
 
--- src/lib.rt:70:5
 loop-less : tie.Need-loop-less Inv-loop μ-loop
 loop-less c = omega arith
 
--- src/lib.rt:70:5
 loop-again : tie.Need-loop-again Inv-loop μ-loop
 loop-again c = search counting
 
--- src/lib.rt:70:5
 loop-less-2 : tie.Need-loop-less-2 Inv-loop μ-loop
 loop-less-2 c = omega arith
 
--- src/lib.rt:70:5
 loop-again-2 : tie.Need-loop-again-2 Inv-loop μ-loop
 loop-again-2 c = search counting
 
--- src/lib.rt:63:1
 returns : tie.Need-returns Inv-loop μ-loop
 returns c = search count-all
 

@@ -5,9 +5,6 @@ use Prim.Native.Nat.{_-_}
 use Rattle.same_uvs.proofs.RowLaws.{Seeking, seeking}
 use Rattle.same_uvs.proofs.next_mapping.Statement.{statement}
 use Rattle.same_uvs.proofs.next_mapping.Tie as tie
-use Rattle.same_uvs.proofs.next_mapping.Reads as reads
-use Rattle.same_uvs.proofs.next_mapping.Lts as lts
-use Rattle.non_default_uvs.proofs.keeps_mapping.Reads as keeps-mapping-reads
 
 abbrev Inv-loop : tie.InvT-loop
 Inv-loop s p m kept requested i j₀ j = Seeking s p m kept requested i j
@@ -15,43 +12,33 @@ Inv-loop s p m kept requested i j₀ j = Seeking s p m kept requested i j
 abbrev μ-loop : tie.MeasureT-loop
 μ-loop s p m kept requested i j₀ j = m - j
 
--- src/lib.rt:17:5
 loop-holds : tie.Need-loop-holds Inv-loop μ-loop
 loop-holds c = search (needs, seeking)
 
--- src/lib.rt:18:46
 add-keeps-mapping : tie.Need-add-keeps-mapping Inv-loop μ-loop
 add-keeps-mapping c = search needs
 
--- src/lib.rt:18:54
 mul-keeps-mapping : tie.Need-mul-keeps-mapping Inv-loop μ-loop
 mul-keeps-mapping c = search needs
 
--- src/lib.rt:18:46
 add-keeps-mapping-2 : tie.Need-add-keeps-mapping-2 Inv-loop μ-loop
 add-keeps-mapping-2 c = search needs
 
--- src/lib.rt:18:12
 keeps-mapping-requires : tie.Need-keeps-mapping-requires Inv-loop μ-loop
 keeps-mapping-requires c κs = search needs
 
--- src/lib.rt:19:13
 returns : tie.Need-returns Inv-loop μ-loop
 returns c = search seeking
 
--- src/lib.rt:21:9
 add-j : tie.Need-add-j Inv-loop μ-loop
 add-j c = search needs
 
--- src/lib.rt:17:5
 loop-less : tie.Need-loop-less Inv-loop μ-loop
 loop-less c = omega arith
 
--- src/lib.rt:17:5
 loop-again : tie.Need-loop-again Inv-loop μ-loop
 loop-again c = search seeking
 
--- src/lib.rt:11:1
 returns-2 : tie.Need-returns-2 Inv-loop μ-loop
 returns-2 c = search seeking
 

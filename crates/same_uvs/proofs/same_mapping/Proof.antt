@@ -1,52 +1,36 @@
 -- Numbers that fit their bytes are equal exactly where the bytes are.
-use native.Mathlib.Omega.{arith}
 use Rattle.same_uvs.proofs.RowLaws.{same-rules}
 use borrow.Author.Needs.{needs}
 use Rattle.same_uvs.proofs.same_mapping.Statement.{statement}
 use Rattle.same_uvs.proofs.same_mapping.Tie as tie
-use Rattle.same_uvs.proofs.same_mapping.Reads as reads
-use Rattle.same_uvs.proofs.same_mapping.Lts as lts
-use Rattle.non_default_uvs.proofs.new_glyph.Reads as new-glyph-reads
-use Rattle.number.proofs.u16_at.Reads as u16-at-reads
-use Rattle.number.proofs.u24_at.Reads as u24-at-reads
 
--- src/lib.rt:31:8
 u24-at-requires : tie.Need-u24-at-requires
 u24-at-requires c κs = search needs
 
--- src/lib.rt:31:32
 u24-at-requires-2 : tie.Need-u24-at-requires-2
 u24-at-requires-2 c κs = search needs
 
--- src/lib.rt:32:71
 add-u16-at : tie.Need-add-u16-at
 add-u16-at c = search needs
 
--- src/lib.rt:32:53
 u16-at-requires : tie.Need-u16-at-requires
 u16-at-requires c κs = search needs
 
--- src/lib.rt:32:13
 new-glyph-requires : tie.Need-new-glyph-requires
 new-glyph-requires c κs = search needs
 
--- src/lib.rt:33:72
 add-u16-at-2 : tie.Need-add-u16-at-2
 add-u16-at-2 c = search needs
 
--- src/lib.rt:33:54
 u16-at-requires-2 : tie.Need-u16-at-requires-2
 u16-at-requires-2 c κs = search needs
 
--- src/lib.rt:33:13
 new-glyph-requires-2 : tie.Need-new-glyph-requires-2
 new-glyph-requires-2 c κs = search needs
 
--- src/lib.rt:34:9
 returns : tie.Need-returns
 returns c = search same-rules
 
--- src/lib.rt:27:1
 returns-2 : tie.Need-returns-2
 returns-2 c = search same-rules
 

@@ -1,35 +1,24 @@
 -- Tables are equal exactly where their records are.
-use native.Mathlib.Omega.{arith}
 use Rattle.same_uvs.proofs.RowLaws.{row-of, same-new}
 use borrow.Author.Needs.{needs}
 use Rattle.same_uvs.proofs.same_non_default.Statement.{statement}
 use Rattle.same_uvs.proofs.same_non_default.Tie as tie
-use Rattle.same_uvs.proofs.same_non_default.Reads as reads
-use Rattle.same_uvs.proofs.same_non_default.Lts as lts
-use Rattle.number.proofs.u32_at.Reads as u32-at-reads
-use Rattle.same_uvs.proofs.same_rows.Reads as same-rows-reads
 
--- src/lib.rt:83:13
 u32-at-requires : tie.Need-u32-at-requires
 u32-at-requires c κs = search needs
 
--- src/lib.rt:83:13
 cast-m : tie.Need-cast-m
 cast-m c = search needs
 
--- src/lib.rt:84:13
 u32-at-requires-2 : tie.Need-u32-at-requires-2
 u32-at-requires-2 c κs = search needs
 
--- src/lib.rt:84:13
 cast-n : tie.Need-cast-n
 cast-n c = search needs
 
--- src/lib.rt:85:5
 same-rows-requires : tie.Need-same-rows-requires
 same-rows-requires c κs = (search row-of, search row-of)
 
--- src/lib.rt:71:1
 returns : tie.Need-returns
 returns c = search same-new
 

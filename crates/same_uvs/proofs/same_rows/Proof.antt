@@ -5,10 +5,6 @@ use Prim.Native.Nat.{_-_}
 use Rattle.same_uvs.proofs.RowLaws.{Pairing, pairing}
 use Rattle.same_uvs.proofs.same_rows.Statement.{statement}
 use Rattle.same_uvs.proofs.same_rows.Tie as tie
-use Rattle.same_uvs.proofs.same_rows.Reads as reads
-use Rattle.same_uvs.proofs.same_rows.Lts as lts
-use Rattle.same_uvs.proofs.next_mapping.Reads as next-mapping-reads
-use Rattle.same_uvs.proofs.same_mapping.Reads as same-mapping-reads
 
 abbrev Inv-loop : tie.InvT-loop
 Inv-loop s p m q n kept map requested i₀ j₀ i j = Pairing s kept map requested p m q n i j
@@ -16,79 +12,60 @@ Inv-loop s p m q n kept map requested i₀ j₀ i j = Pairing s kept map request
 abbrev μ-loop : tie.MeasureT-loop
 μ-loop s p m q n kept map requested i₀ j₀ i j = m - i
 
--- src/lib.rt:54:9
 next-mapping-requires : tie.Need-next-mapping-requires Inv-loop μ-loop
 next-mapping-requires c κs = search needs
 
--- src/lib.rt:55:9
 next-mapping-requires-2 : tie.Need-next-mapping-requires-2 Inv-loop μ-loop
 next-mapping-requires-2 c κs = search needs
 
--- src/lib.rt:56:5
 loop-holds : tie.Need-loop-holds Inv-loop μ-loop
 loop-holds c = search pairing
 
--- src/lib.rt:58:13
 returns : tie.Need-returns Inv-loop μ-loop
 returns c = search pairing
 
--- src/lib.rt:60:28
 add-same-mapping : tie.Need-add-same-mapping Inv-loop μ-loop
 add-same-mapping c = search needs
 
--- src/lib.rt:60:36
 mul-same-mapping : tie.Need-mul-same-mapping Inv-loop μ-loop
 mul-same-mapping c = search needs
 
--- src/lib.rt:60:28
 add-same-mapping-2 : tie.Need-add-same-mapping-2 Inv-loop μ-loop
 add-same-mapping-2 c = search needs
 
--- src/lib.rt:60:43
 add-same-mapping-3 : tie.Need-add-same-mapping-3 Inv-loop μ-loop
 add-same-mapping-3 c = search needs
 
--- src/lib.rt:60:51
 mul-same-mapping-2 : tie.Need-mul-same-mapping-2 Inv-loop μ-loop
 mul-same-mapping-2 c = search needs
 
--- src/lib.rt:60:43
 add-same-mapping-4 : tie.Need-add-same-mapping-4 Inv-loop μ-loop
 add-same-mapping-4 c = search needs
 
--- src/lib.rt:60:12
 same-mapping-requires : tie.Need-same-mapping-requires Inv-loop μ-loop
 same-mapping-requires c κs = search needs
 
--- src/lib.rt:61:56
 add-next-mapping : tie.Need-add-next-mapping Inv-loop μ-loop
 add-next-mapping c = search needs
 
--- src/lib.rt:61:13
 next-mapping-requires-3 : tie.Need-next-mapping-requires-3 Inv-loop μ-loop
 next-mapping-requires-3 c κs = search needs
 
--- src/lib.rt:62:56
 add-next-mapping-2 : tie.Need-add-next-mapping-2 Inv-loop μ-loop
 add-next-mapping-2 c = search needs
 
--- src/lib.rt:62:13
 next-mapping-requires-4 : tie.Need-next-mapping-requires-4 Inv-loop μ-loop
 next-mapping-requires-4 c κs = search needs
 
--- src/lib.rt:56:5
 loop-less : tie.Need-loop-less Inv-loop μ-loop
 loop-less c = omega arith
 
--- src/lib.rt:56:5
 loop-again : tie.Need-loop-again Inv-loop μ-loop
 loop-again c = search pairing
 
--- src/lib.rt:64:13
 returns-2 : tie.Need-returns-2 Inv-loop μ-loop
 returns-2 c = search pairing
 
--- src/lib.rt:40:1
 returns-3 : tie.Need-returns-3 Inv-loop μ-loop
 returns-3 c = search pairing
 
