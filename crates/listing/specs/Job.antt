@@ -14,3 +14,7 @@ pub record Job : Type 0 where
 -- the font's glyph count n is the map's length
 abbrev pub glyphCount : Job → ℕ
 glyphCount j = length (j .newGlyphs)
+
+abbrev pub job : List ℕ → List ℕ → List ℕ → List ℕ → List ℕ → List ℕ → Job
+job source codes glyphs kept newGlyphs requested =
+    record { source = source; codes = codes; glyphs = glyphs; kept = kept; newGlyphs = newGlyphs; requested = requested }

@@ -3,7 +3,14 @@ use source::Kind;
 ghost use mathlib.Core.Path.{_≡_};
 ghost use Prim.Native.Nat.{_<_};
 ghost use lib.ListN.{getD};
-ghost use Rattle.format14.specs.Format14.{lengthIn};
+ghost use Rattle.listing.specs.Listing.{listed};
+ghost use Rattle.format4.specs.Size.{sizeOf as sizeOf4};
+ghost use Rattle.format12.specs.Format12.{sizeOf as sizeOf12};
+ghost use Rattle.making.specs.Making.{Pairs, Leads};
+ghost use Rattle.selector_tables.specs.Selectors.{given};
+ghost use Rattle.selector_tables.specs.ByNumber.{Readable};
+ghost use Rattle.format14.specs.Format14.{lengthIn, outcome as outcome14};
+ghost use Rattle.plan.specs.declared.Outcome.the-variants.{Made};
 ghost use Rattle.records.specs.Records.{Placed};
 ghost use Rattle.plan.specs.Plan.{by4, by14, isMade, isBad, serves, Short, Short4};
 
@@ -39,6 +46,47 @@ fn of_outcome14(outcome: format14::Outcome) -> Outcome
         format14::Outcome::Empty => Outcome::Empty,
         format14::Outcome::Length(n) => Outcome::Made(n),
     }
+}
+
+fn fresh4(
+    s: &[u8],
+    k: usize,
+    n: u32,
+    codes: &[u32],
+    glyphs: &[u16],
+    flags: &mut [u8],
+    tocodes: &mut [u32],
+    toglyphs: &mut [u16],
+) -> Outcome
+    requires { ⌜ Pairs (now s) k n (now codes) (now glyphs) (now flags) (now tocodes) (now toglyphs) ⌝ }
+    requires { ⌜ Leads (now s) k 4 ⌝ }
+    ensures { λ r. ⌜ (r ≡ by4 (sizeOf4 (listed (now (s .entry)) n (now (codes .entry)) (now (glyphs .entry)) k))) × Short r ⌝ }
+{
+    of_size4(making::size4(s, k, n, codes, glyphs, flags, tocodes, toglyphs))
+}
+
+fn fresh12(
+    s: &[u8],
+    k: usize,
+    n: u32,
+    codes: &[u32],
+    glyphs: &[u16],
+    flags: &mut [u8],
+    tocodes: &mut [u32],
+    toglyphs: &mut [u16],
+) -> Outcome
+    requires { ⌜ Pairs (now s) k n (now codes) (now glyphs) (now flags) (now tocodes) (now toglyphs) ⌝ }
+    ensures { λ r. ⌜ (r ≡ Made (sizeOf12 (listed (now (s .entry)) n (now (codes .entry)) (now (glyphs .entry)) k) .bytes)) × Short r ⌝ }
+{
+    let size = making::size12(s, k, n, codes, glyphs, flags, tocodes, toglyphs);
+    Outcome::Made(size.bytes)
+}
+
+fn fresh14(s: &[u8], at: usize, len: usize, kept: &[u32], map: &[u16], requested: &[u16]) -> Outcome
+    requires { ⌜ Readable (now s) at len (now kept) (now requested) ⌝ }
+    ensures { λ r. ⌜ (r ≡ by14 (outcome14 (given (now (s .entry)) at len (now (kept .entry)) (now (map .entry)) (now (requested .entry))))) × Short r ⌝ }
+{
+    of_outcome14(format14::size(s, at, len, kept, map, requested))
 }
 
 pub fn is_made(outcome: Outcome) -> bool
