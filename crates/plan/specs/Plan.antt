@@ -6,9 +6,9 @@ use mathlib.Core.Bool.{Bool, true, false, not}
 use lib.Dec.{ltb, eqb}
 use lib.ListN.{length, getD, set, replicate}
 use Rattle.laws.specs.Choice.{pick, both, either}
-use Rattle.laws.specs.Lists.{Pair}
+use Rattle.laws.specs.Lists.{Pair, Rising}
 use Rattle.laws.specs.Search.{first, some}
-use Rattle.number.specs.Limits.{recordsMax}
+use Rattle.number.specs.Limits.{recordsMax, sourceMax, keptMax}
 use Rattle.source.specs.declared.Kind.{Kind}
 use Rattle.source.specs.declared.Kind.the-variants.{Format4, Format12, Format14, Unreadable}
 use Rattle.source.specs.Header.{recordCount, offsetOf}
@@ -23,6 +23,8 @@ use Rattle.format4.specs.declared.Size.the-variants.{Empty as Empty4, TooLong a
 use Rattle.format4.specs.Format4.{format4}
 use Rattle.format4.specs.Size.{sizeOf as sizeOf4, lengthOf as lengthOf4}
 use Rattle.format12.specs.Format12.{format12, sizeOf as sizeOf12}
+use Rattle.making.specs.Making.{Pairs}
+use Rattle.same_uvs.specs.Streams.{CodePoints}
 use Rattle.selector_tables.specs.Selectors.{Given, given}
 use Rattle.format14.specs.declared.Outcome.{Outcome as Outcome14}
 use Rattle.format14.specs.declared.Outcome.the-variants.{Refused8, Empty as Empty14, Length}
@@ -157,3 +159,14 @@ pub record Small (os : List Outcome) : Type 0 where
 -- a format 4 size that was found is a length of 16 bits
 pub record Short4 (size : Size) : Type 0 where
   pub fits : (n : RangeCounter) → size ≡ Fits n → lengthOf4 n ≤ 65535
+
+-- ---- what the functions ask for
+
+-- record k is there, the lists are those of a job that refusals 1 to 4 let pass, and the work room is long enough
+pub record Ready (j : Job) (k : ℕ) (flags tocodes toglyphs : List ℕ) : Type 0 where
+  pub pairs-ready : Pairs (j .source) k (glyphCount j) (j .codes) (j .glyphs) flags tocodes toglyphs
+  pub source-small : length (j .source) ≤ sourceMax
+  pub kept-rises : Rising (j .kept)
+  pub kept-few : length (j .kept) ≤ keptMax
+  pub kept-low : CodePoints (j .kept)
+  pub requested-rises : Rising (j .requested)

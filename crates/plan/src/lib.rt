@@ -3,6 +3,7 @@ use source::Kind;
 ghost use mathlib.Core.Path.{_≡_};
 ghost use Prim.Native.Nat.{_<_};
 ghost use lib.ListN.{getD};
+ghost use Rattle.listing.specs.Job.{job};
 ghost use Rattle.listing.specs.Listing.{listed};
 ghost use Rattle.format4.specs.Size.{sizeOf as sizeOf4};
 ghost use Rattle.format12.specs.Format12.{sizeOf as sizeOf12};
@@ -12,7 +13,7 @@ ghost use Rattle.selector_tables.specs.ByNumber.{Readable};
 ghost use Rattle.format14.specs.Format14.{lengthIn, outcome as outcome14};
 ghost use Rattle.plan.specs.declared.Outcome.the-variants.{Made};
 ghost use Rattle.records.specs.Records.{Placed};
-ghost use Rattle.plan.specs.Plan.{by4, by14, isMade, isBad, serves, Short, Short4};
+ghost use Rattle.plan.specs.Plan.{by4, by14, fresh, isMade, isBad, serves, Short, Short4, Ready};
 
 // Served holds the record whose table serves, Made the length of the record's own table.
 pub enum Outcome {
@@ -87,6 +88,42 @@ fn fresh14(s: &[u8], at: usize, len: usize, kept: &[u32], map: &[u16], requested
     ensures { λ r. ⌜ (r ≡ by14 (outcome14 (given (now (s .entry)) at len (now (kept .entry)) (now (map .entry)) (now (requested .entry))))) × Short r ⌝ }
 {
     of_outcome14(format14::size(s, at, len, kept, map, requested))
+}
+
+// What becomes of record k if no earlier table serves it.
+fn fresh(
+    s: &[u8],
+    codes: &[u32],
+    glyphs: &[u16],
+    kept: &[u32],
+    map: &[u16],
+    requested: &[u16],
+    flags: &mut [u8],
+    tocodes: &mut [u32],
+    toglyphs: &mut [u16],
+    k: usize,
+) -> Outcome
+    requires { ⌜ Ready (job (now s) (now codes) (now glyphs) (now kept) (now map) (now requested)) k (now flags) (now tocodes) (now toglyphs) ⌝ }
+    ensures { λ r. ⌜ (r ≡ fresh (job (now (s .entry)) (now (codes .entry)) (now (glyphs .entry)) (now (kept .entry)) (now (map .entry)) (now (requested .entry))) k) × Short r ⌝ }
+{
+    let n = map.len() as u32;
+    match records::leads_to(s, k) {
+        Kind::Format4 {
+            language: _,
+            segments: _,
+            length: _,
+        } => fresh4(s, k, n, codes, glyphs, flags, tocodes, toglyphs),
+        Kind::Format12 {
+            language: _,
+            groups: _,
+            length: _,
+        } => fresh12(s, k, n, codes, glyphs, flags, tocodes, toglyphs),
+        Kind::Format14 { records: _, length } => {
+            let at = source::offset_of(s, k);
+            fresh14(s, at, length, kept, map, requested)
+        }
+        Kind::Unreadable => Outcome::Skipped,
+    }
 }
 
 pub fn is_made(outcome: Outcome) -> bool
