@@ -1,2 +1,4 @@
 pub mod SizesLaws
 pub mod FreshLaws
+pub mod ServesLaws
+pub mod OutcomeLaws

@@ -13,7 +13,7 @@ use Rattle.source.specs.declared.Kind.{Kind}
 use Rattle.source.specs.declared.Kind.the-variants.{Format4, Format12, Format14, Unreadable}
 use Rattle.source.specs.Header.{recordCount, offsetOf}
 use Rattle.source.specs.Kind.{formatOf}
-use Rattle.records.specs.Records.{leadsTo, leadsToFormat, retained}
+use Rattle.records.specs.Records.{leadsTo, leadsToFormat, retained, Placed}
 use Rattle.listing.specs.Job.{Job, glyphCount}
 use Rattle.listing.specs.Listing.{listed}
 use Rattle.covering.specs.Covered.{covered}
@@ -107,12 +107,18 @@ serves xs os k r = both (isMade (getD os r NotRetained)) (leadsToFormat (formatO
 
 -- ---- the walk in source order
 
--- record k, where os holds what became of those before it; "covered" is asked before what serves it
+-- the first earlier record whose table serves record k; k where there is none
+unfoldable pub server : List ℕ → List Outcome → ℕ → ℕ
+server xs os k = first (serves xs os k) k 0
+
+-- a retained record k, where os holds what became of those before it; "covered" is asked before what serves it
+unfoldable pub retainedOutcome : Job → List Outcome → ℕ → Outcome
+retainedOutcome j os k =
+    let r = server (j .source) os k in
+    pick (covered (j .source) (glyphCount j) (j .kept) k) Covered (pick (ltb r k) (Served r) (fresh j k))
+
 unfoldable pub outcomeOf : Job → List Outcome → ℕ → Outcome
-outcomeOf j os k =
-    let r = first (serves (j .source) os k) k 0 in
-    pick (not (retained (j .source) k)) NotRetained
-    (pick (covered (j .source) (glyphCount j) (j .kept) k) Covered (pick (ltb r k) (Served r) (fresh j k)))
+outcomeOf j os k = pick (retained (j .source) k) (retainedOutcome j os k) NotRetained
 
 -- a row for as many records as there can be, of which the first k are worked out
 unfoldable pub outcomes : Job → ℕ → List Outcome
@@ -161,6 +167,12 @@ pub record Short4 (size : Size) : Type 0 where
   pub fits : (n : RangeCounter) → size ≡ Fits n → lengthOf4 n ≤ 65535
 
 -- ---- what the functions ask for
+
+-- records k and r are there
+pub record Two (xs : List ℕ) (k r : ℕ) : Type 0 where
+  pub this : Placed xs k
+  pub other : Placed xs r
+  pub inside : r < recordsMax
 
 -- record k is there, the lists are those of a job that refusals 1 to 4 let pass, and the work room is long enough
 pub record Ready (j : Job) (k : ℕ) (flags tocodes toglyphs : List ℕ) : Type 0 where

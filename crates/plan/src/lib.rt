@@ -2,7 +2,8 @@
 use source::Kind;
 ghost use mathlib.Core.Path.{_≡_};
 ghost use Prim.Native.Nat.{_<_};
-ghost use lib.ListN.{getD};
+ghost use lib.ListN.{length};
+ghost use Rattle.covering.specs.Covered.{Rooms};
 ghost use Rattle.listing.specs.Job.{job};
 ghost use Rattle.listing.specs.Listing.{listed};
 ghost use Rattle.format4.specs.Size.{sizeOf as sizeOf4};
@@ -13,7 +14,7 @@ ghost use Rattle.selector_tables.specs.ByNumber.{Readable};
 ghost use Rattle.format14.specs.Format14.{lengthIn, outcome as outcome14};
 ghost use Rattle.plan.specs.declared.Outcome.the-variants.{Made};
 ghost use Rattle.records.specs.Records.{Placed};
-ghost use Rattle.plan.specs.Plan.{by4, by14, fresh, isMade, isBad, serves, Short, Short4, Ready};
+ghost use Rattle.plan.specs.Plan.{by4, by14, fresh, isMade, isBad, serves, server, retainedOutcome, outcomeOf, Short, Short4, Two, Ready};
 
 // Served holds the record whose table serves, Made the length of the record's own table.
 pub enum Outcome {
@@ -154,4 +155,95 @@ fn is_bad(outcome: Outcome) -> bool
         Outcome::Served(_) => false,
         Outcome::Made(_) => false,
     }
+}
+
+// Whether the table that record r made, if it made one, is of record k's format.
+fn serves(s: &[u8], os: [Outcome; 64], k: usize, r: usize) -> bool
+    requires { ⌜ Two (now s) k r ⌝ }
+    ensures { λ t. ⌜ t ≡ serves (now (s .entry)) os k r ⌝ }
+{
+    let o = os[r];
+    if is_made(o) {
+        let format = source::format_of(records::leads_to(s, k));
+        return records::leads_to_format(s, r, format);
+    }
+    false
+}
+
+// The first earlier record whose table serves record k; k where there is none.
+fn server(s: &[u8], os: [Outcome; 64], k: usize) -> usize
+    requires { ⌜ Placed (now s) k ⌝ }
+    requires { ⌜ k < 64 ⌝ }
+    ensures { λ r. ⌜ r ≡ server (now (s .entry)) os k ⌝ }
+{
+    let mut r = 0;
+    while r < k {
+        if serves(s, os, k, r) {
+            return r;
+        }
+        r += 1;
+    }
+    r
+}
+
+fn retained_outcome(
+    s: &[u8],
+    m: usize,
+    codes: &[u32],
+    glyphs: &[u16],
+    kept: &[u32],
+    map: &[u16],
+    requested: &[u16],
+    flags: &mut [u8],
+    others: &mut [u8],
+    tocodes: &mut [u32],
+    toglyphs: &mut [u16],
+    os: [Outcome; 64],
+    k: usize,
+) -> Outcome
+    requires { ⌜ Ready (job (now s) (now codes) (now glyphs) (now kept) (now map) (now requested)) k (now flags) (now tocodes) (now toglyphs) ⌝ }
+    requires { ⌜ Rooms (now s) m k (length (now map)) (now kept) (now flags) (now others) ⌝ }
+    requires { ⌜ k < 64 ⌝ }
+    ensures { λ r. ⌜ (r ≡ retainedOutcome (job (now (s .entry)) (now (codes .entry)) (now (glyphs .entry)) (now (kept .entry)) (now (map .entry)) (now (requested .entry))) os k) × Short r ⌝ }
+{
+    let n = map.len() as u32;
+    if covering::can_drop_format12(s, m, k, n, kept, flags, others) {
+        return Outcome::Covered;
+    }
+    let r = server(s, os, k);
+    if r < k {
+        return Outcome::Served(r);
+    }
+    fresh(
+        s, codes, glyphs, kept, map, requested, flags, tocodes, toglyphs, k,
+    )
+}
+
+// What becomes of record k of m, where os holds what became of those before it.
+fn outcome_of(
+    s: &[u8],
+    m: usize,
+    codes: &[u32],
+    glyphs: &[u16],
+    kept: &[u32],
+    map: &[u16],
+    requested: &[u16],
+    flags: &mut [u8],
+    others: &mut [u8],
+    tocodes: &mut [u32],
+    toglyphs: &mut [u16],
+    os: [Outcome; 64],
+    k: usize,
+) -> Outcome
+    requires { ⌜ Ready (job (now s) (now codes) (now glyphs) (now kept) (now map) (now requested)) k (now flags) (now tocodes) (now toglyphs) ⌝ }
+    requires { ⌜ Rooms (now s) m k (length (now map)) (now kept) (now flags) (now others) ⌝ }
+    requires { ⌜ k < 64 ⌝ }
+    ensures { λ r. ⌜ (r ≡ outcomeOf (job (now (s .entry)) (now (codes .entry)) (now (glyphs .entry)) (now (kept .entry)) (now (map .entry)) (now (requested .entry))) os k) × Short r ⌝ }
+{
+    if records::retain_encoding_record_for_subset(s, k) {
+        return retained_outcome(
+            s, m, codes, glyphs, kept, map, requested, flags, others, tocodes, toglyphs, os, k,
+        );
+    }
+    Outcome::NotRetained
 }
