@@ -2,3 +2,4 @@ pub mod SizesLaws
 pub mod FreshLaws
 pub mod ServesLaws
 pub mod OutcomeLaws
+pub mod PlanLaws

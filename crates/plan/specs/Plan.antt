@@ -8,14 +8,14 @@ use lib.ListN.{length, getD, set, replicate}
 use Rattle.laws.specs.Choice.{pick, both, either}
 use Rattle.laws.specs.Lists.{Pair, Rising}
 use Rattle.laws.specs.Search.{first, some}
-use Rattle.number.specs.Limits.{recordsMax, sourceMax, keptMax}
+use Rattle.number.specs.Limits.{recordsMax, pairsMax, sourceMax, keptMax}
 use Rattle.source.specs.declared.Kind.{Kind}
 use Rattle.source.specs.declared.Kind.the-variants.{Format4, Format12, Format14, Unreadable}
 use Rattle.source.specs.Header.{recordCount, offsetOf}
 use Rattle.source.specs.Kind.{formatOf}
-use Rattle.records.specs.Records.{leadsTo, leadsToFormat, retained, Placed}
+use Rattle.records.specs.Records.{leadsTo, leadsToFormat, retained, Placed, Counted}
 use Rattle.listing.specs.Job.{Job, glyphCount}
-use Rattle.listing.specs.Listing.{listed}
+use Rattle.listing.specs.Listing.{listed, Columns}
 use Rattle.covering.specs.Covered.{covered}
 use Rattle.format4.specs.declared.RangeCounter.{RangeCounter}
 use Rattle.format4.specs.declared.Size.{Size}
@@ -182,3 +182,20 @@ pub record Ready (j : Job) (k : ℕ) (flags tocodes toglyphs : List ℕ) : Type 
   pub kept-few : length (j .kept) ≤ keptMax
   pub kept-low : CodePoints (j .kept)
   pub requested-rises : Rising (j .requested)
+
+-- the same for all m records of the source
+pub record Prepared (j : Job) (m : ℕ) (flags others tocodes toglyphs : List ℕ) : Type 0 where
+  pub counted : Counted (j .source) m
+  pub few-records : m ≤ recordsMax
+  pub glyph-count : glyphCount j < 65536
+  pub codes-rise : Rising (j .codes)
+  pub few-pairs : length (j .codes) ≤ pairsMax
+  pub columns : Columns (j .codes) (j .glyphs) tocodes toglyphs
+  pub source-small : length (j .source) ≤ sourceMax
+  pub kept-rises : Rising (j .kept)
+  pub kept-few : length (j .kept) ≤ keptMax
+  pub kept-low : CodePoints (j .kept)
+  pub requested-rises : Rising (j .requested)
+  pub code-flags : length (j .codes) ≤ length flags
+  pub kept-flags : length (j .kept) ≤ length flags
+  pub kept-others : length (j .kept) ≤ length others

@@ -14,7 +14,7 @@ ghost use Rattle.selector_tables.specs.ByNumber.{Readable};
 ghost use Rattle.format14.specs.Format14.{lengthIn, outcome as outcome14};
 ghost use Rattle.plan.specs.declared.Outcome.the-variants.{Made};
 ghost use Rattle.records.specs.Records.{Placed};
-ghost use Rattle.plan.specs.Plan.{by4, by14, fresh, isMade, isBad, serves, server, retainedOutcome, outcomeOf, Short, Short4, Two, Ready};
+ghost use Rattle.plan.specs.Plan.{by4, by14, fresh, isMade, isBad, serves, server, retainedOutcome, outcomeOf, plan, Short, Small, Short4, Two, Ready, Prepared};
 
 // Served holds the record whose table serves, Made the length of the record's own table.
 pub enum Outcome {
@@ -215,7 +215,16 @@ fn retained_outcome(
         return Outcome::Served(r);
     }
     fresh(
-        s, codes, glyphs, kept, map, requested, flags, tocodes, toglyphs, k,
+        s,
+        codes,
+        glyphs,
+        kept,
+        map,
+        requested,
+        flags,
+        tocodes,
+        toglyphs,
+        k,
     )
 }
 
@@ -242,8 +251,61 @@ fn outcome_of(
 {
     if records::retain_encoding_record_for_subset(s, k) {
         return retained_outcome(
-            s, m, codes, glyphs, kept, map, requested, flags, others, tocodes, toglyphs, os, k,
+            s,
+            m,
+            codes,
+            glyphs,
+            kept,
+            map,
+            requested,
+            flags,
+            others,
+            tocodes,
+            toglyphs,
+            os,
+            k,
         );
     }
     Outcome::NotRetained
+}
+
+// What becomes of each of the m records; the last four slices are work room.
+pub fn plan(
+    s: &[u8],
+    m: usize,
+    codes: &[u32],
+    glyphs: &[u16],
+    kept: &[u32],
+    map: &[u16],
+    requested: &[u16],
+    flags: &mut [u8],
+    others: &mut [u8],
+    tocodes: &mut [u32],
+    toglyphs: &mut [u16],
+) -> [Outcome; 64]
+    requires { ⌜ Prepared (job (now s) (now codes) (now glyphs) (now kept) (now map) (now requested)) m (now flags) (now others) (now tocodes) (now toglyphs) ⌝ }
+    ensures { λ r. ⌜ (r ≡ plan (job (now (s .entry)) (now (codes .entry)) (now (glyphs .entry)) (now (kept .entry)) (now (map .entry)) (now (requested .entry)))) × Small r ⌝ }
+{
+    let mut os = [Outcome::NotRetained; 64];
+    let mut k = 0;
+    while k < m {
+        let o = outcome_of(
+            s,
+            m,
+            codes,
+            glyphs,
+            kept,
+            map,
+            requested,
+            flags,
+            others,
+            tocodes,
+            toglyphs,
+            os,
+            k,
+        );
+        os[k] = o;
+        k += 1;
+    }
+    os
 }

@@ -2,27 +2,19 @@ use Rattle.plan.proofs.SizesLaws.{sizes}
 use borrow.Author.Needs.{needs}
 use Rattle.plan.proofs.fresh12.Statement.{statement}
 use Rattle.plan.proofs.fresh12.Tie as tie
-use Rattle.plan.proofs.fresh12.Reads as reads
-use Rattle.plan.proofs.fresh12.Lts as lts
-use Rattle.making.proofs.size12.Reads as size12-reads
 
--- src/lib.rt:81:9
 size12-requires : tie.Need-size12-requires
 size12-requires c κs = search needs
 
--- src/lib.rt:68:1
 same-length : tie.Need-same-length
 same-length c = search needs
 
--- src/lib.rt:68:1
 same-length-2 : tie.Need-same-length-2
 same-length-2 c = search needs
 
--- src/lib.rt:68:1
 same-length-3 : tie.Need-same-length-3
 same-length-3 c = search needs
 
--- src/lib.rt:68:1
 returns : tie.Need-returns
 returns c = (search sizes, search sizes)
 

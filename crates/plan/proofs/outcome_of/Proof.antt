@@ -1,41 +1,29 @@
-use Rattle.plan.proofs.OutcomeLaws.{outcome-rules, ready-again}
+use Rattle.plan.proofs.OutcomeLaws.{outcome-rules}
 use borrow.Author.Needs.{needs}
 use Rattle.plan.proofs.outcome_of.Statement.{statement}
 use Rattle.plan.proofs.outcome_of.Tie as tie
-use Rattle.plan.proofs.outcome_of.Reads as reads
-use Rattle.plan.proofs.outcome_of.Lts as lts
-use Rattle.plan.proofs.retained_outcome.Reads as retained-outcome-reads
-use Rattle.records.proofs.retain_encoding_record_for_subset.Reads as retain-encoding-record-for-subset-reads
 
--- src/lib.rt:243:8
 retain-encoding-record-for-subset-requires : tie.Need-retain-encoding-record-for-subset-requires
 retain-encoding-record-for-subset-requires c κs = search needs
 
--- src/lib.rt:244:9
 retained-outcome-requires : tie.Need-retained-outcome-requires
 retained-outcome-requires c κs = search needs
 
--- src/lib.rt:244:9
 same-length : tie.Need-same-length
 same-length c = search needs
 
--- src/lib.rt:244:9
 same-length-2 : tie.Need-same-length-2
 same-length-2 c = search needs
 
--- src/lib.rt:244:9
 same-length-3 : tie.Need-same-length-3
 same-length-3 c = search needs
 
--- src/lib.rt:244:9
 same-length-4 : tie.Need-same-length-4
 same-length-4 c = search needs
 
--- src/lib.rt:244:9
 returns : tie.Need-returns
 returns c = (search outcome-rules, search needs)
 
--- src/lib.rt:223:1
 returns-2 : tie.Need-returns-2
 returns-2 c = (search outcome-rules, search needs)
 

@@ -4,9 +4,6 @@ use borrow.Author.Needs.{needs}
 use Rattle.plan.proofs.ServesLaws.{Serving, server-search}
 use Rattle.plan.proofs.server.Statement.{statement}
 use Rattle.plan.proofs.server.Tie as tie
-use Rattle.plan.proofs.server.Reads as reads
-use Rattle.plan.proofs.server.Lts as lts
-use Rattle.plan.proofs.serves.Reads as serves-reads
 
 abbrev Inv-loop : tie.InvT-loop
 Inv-loop s os k r₀ r = Serving s os k r
@@ -14,31 +11,24 @@ Inv-loop s os k r₀ r = Serving s os k r
 abbrev μ-loop : tie.MeasureT-loop
 μ-loop s os k r₀ r = k - r
 
--- src/lib.rt:180:5
 loop-holds : tie.Need-loop-holds Inv-loop μ-loop
 loop-holds c = search (needs, server-search)
 
--- src/lib.rt:181:12
 serves-requires : tie.Need-serves-requires Inv-loop μ-loop
 serves-requires c κs = search (needs, server-search)
 
--- src/lib.rt:182:13
 returns : tie.Need-returns Inv-loop μ-loop
 returns c = search (needs, server-search)
 
--- src/lib.rt:184:9
 add-r : tie.Need-add-r Inv-loop μ-loop
 add-r c = omega arith
 
--- src/lib.rt:180:5
 loop-less : tie.Need-loop-less Inv-loop μ-loop
 loop-less c = omega arith
 
--- src/lib.rt:180:5
 loop-again : tie.Need-loop-again Inv-loop μ-loop
 loop-again c = search (needs, server-search)
 
--- src/lib.rt:174:1
 returns-2 : tie.Need-returns-2 Inv-loop μ-loop
 returns-2 c = search (needs, server-search)
 

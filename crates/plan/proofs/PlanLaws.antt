@@ -1,0 +1,129 @@
+-- The walk over the records: what is worked out so far is the row of outcomes so far.
+use Prim.Native.Nat.{ℕ, zero, suc, _+_, _<_, _≤_}
+use mathlib.Core.Path.{_≡_, refl, sym, ap, _∙_}
+use mathlib.Core.List.{List, [], _∷_}
+use native.Mathlib.Numerals.{add-one}
+use native.Mathlib.Omega.{arith}
+use lib.ListN.{length, getD, set, replicate, length-set}
+use Rattle.records.specs.Records.{Placed, Counted}
+use Rattle.records.proofs.RecordsLaws.{placed}
+use Rattle.covering.specs.Covered.{Rooms}
+use Rattle.listing.specs.Job.{Job, glyphCount}
+use Rattle.plan.specs.declared.Outcome.{Outcome}
+use Rattle.plan.specs.declared.Outcome.the-variants.{NotRetained}
+use Rattle.plan.specs.Plan.{outcomeOf, outcomes, plan, Short, Small, Ready, Prepared}
+
+-- ---- what is asked for each record
+
+module _ (j : Job) (m : ℕ) (fs os tocs togs : List ℕ) (p : Prepared j m fs os tocs togs) where
+  pub ready : (k : ℕ) → k < m → Ready j k fs tocs togs
+  ready k h = record {
+    pairs-ready = record {
+      placed = placed (j .source) m k (p .counted) h;
+      beside = record { glyphs = p .glyph-count; flagged = record { rising = p .codes-rise; beside = p .code-flags } };
+      columns = p .columns;
+      few = p .few-pairs;
+    };
+    source-small = p .source-small;
+    kept-rises = p .kept-rises;
+    kept-few = p .kept-few;
+    kept-low = p .kept-low;
+    requested-rises = p .requested-rises;
+  }
+
+  pub rooms : (k : ℕ) → k < m → Rooms (j .source) m k (glyphCount j) (j .kept) fs os
+  rooms k h = record {
+    counted = p .counted;
+    below = h;
+    glyphs = p .glyph-count;
+    rising = p .kept-rises;
+    beside = p .kept-flags;
+    again = p .kept-others;
+  }
+
+  -- work room that was written to is work room still
+  pub prepared-again : (fs′ os′ tocs′ togs′ : List ℕ) → length fs′ ≡ length fs → length os′ ≡ length os → length tocs′ ≡ length tocs → length togs′ ≡ length togs
+      → Prepared j m fs′ os′ tocs′ togs′
+  prepared-again fs′ os′ tocs′ togs′ a b c d = record {
+    counted = p .counted;
+    few-records = p .few-records;
+    glyph-count = p .glyph-count;
+    codes-rise = p .codes-rise;
+    few-pairs = p .few-pairs;
+    columns = record { even = p .columns .even; codes = omega (arith, p .columns .codes); glyphs = omega (arith, p .columns .glyphs) };
+    source-small = p .source-small;
+    kept-rises = p .kept-rises;
+    kept-few = p .kept-few;
+    kept-low = p .kept-low;
+    requested-rises = p .requested-rises;
+    code-flags = omega (arith, p .code-flags);
+    kept-flags = omega (arith, p .kept-flags);
+    kept-others = omega (arith, p .kept-others);
+  }
+
+-- ---- the row
+
+short-none : (n k : ℕ) → Short (getD (replicate n NotRetained) k NotRetained)
+short-none zero k = record { below = omega arith }
+short-none (suc n) zero = record { below = omega arith }
+short-none (suc n) (suc k) = short-none n k
+
+short-set : (os : List Outcome) (k i : ℕ) (o : Outcome) → Short o → Short (getD os i NotRetained) → Short (getD (set os k o) i NotRetained)
+short-set [] k i o s b = b
+short-set (x ∷ os) zero zero o s b = s
+short-set (x ∷ os) zero (suc i) o s b = b
+short-set (x ∷ os) (suc k) zero o s b = b
+short-set (x ∷ os) (suc k) (suc i) o s b = short-set os k i o s b
+
+-- ---- the walk
+
+pub record Planning (j : Job) (m : ℕ) (fs ot tocs togs : List ℕ) (os : List Outcome) (k : ℕ) : Type 0 where
+  pub prepared : Prepared j m fs ot tocs togs
+  pub within : k ≤ m
+  pub row : os ≡ outcomes j k
+  pub small : Small os
+
+pub planning-start : (j : Job) (m : ℕ) (fs ot tocs togs : List ℕ) → Prepared j m fs ot tocs togs → Planning j m fs ot tocs togs (replicate 64 NotRetained) 0
+unfolding outcomes
+planning-start j m fs ot tocs togs p = record {
+  prepared = p;
+  within = omega arith;
+  row = refl;
+  small = record { all = refl; each = short-none 64 };
+}
+
+module _ (j : Job) (m : ℕ) (fs ot tocs togs : List ℕ) (os : List Outcome) (k : ℕ) (l : Planning j m fs ot tocs togs os k) where
+  pub planning-on : (o : Outcome) (fs′ ot′ tocs′ togs′ : List ℕ) → k < m → o ≡ outcomeOf j os k → Short o
+      → length fs′ ≡ length fs → length ot′ ≡ length ot → length tocs′ ≡ length tocs → length togs′ ≡ length togs
+      → Planning j m fs′ ot′ tocs′ togs′ (set os k o) (k + 1)
+  unfolding outcomes
+  planning-on o fs′ ot′ tocs′ togs′ h e s a b c d = record {
+    prepared = prepared-again j m fs ot tocs togs (l .prepared) fs′ ot′ tocs′ togs′ a b c d;
+    within = omega arith;
+    row = rw (add-one k, ← l .row, e);
+    small = record { all = length-set os k o ∙ l .small .all; each = λ i. short-set os k i o s (l .small .each i) };
+  }
+
+  pub planning-done : m ≤ k → os ≡ plan j
+  unfolding plan
+  planning-done h =
+      let e : k ≡ m = omega (arith, l .within) in
+      l .row ∙ ap (outcomes j) (e ∙ l .prepared .counted .is)
+
+  pub planning-ready : k < m → Ready j k fs tocs togs
+  planning-ready h = ready j m fs ot tocs togs (l .prepared) k h
+
+  pub planning-rooms : k < m → Rooms (j .source) m k (glyphCount j) (j .kept) fs ot
+  planning-rooms h = rooms j m fs ot tocs togs (l .prepared) k h
+
+  pub planning-inside : k < m → k < 64
+  planning-inside h = omega (arith, l .prepared .few-records)
+
+pub ruleset planning = (planning-start, planning-on, planning-done, planning-ready, planning-rooms, planning-inside)
+
+-- the work room keeps its lengths
+pub record Kept (fs₀ ot₀ tocs₀ togs₀ fs ot tocs togs : List ℕ) : Type 0 where
+  pub flags : length fs ≡ length fs₀
+  pub others : length ot ≡ length ot₀
+  pub codes : length tocs ≡ length tocs₀
+  pub glyphs : length togs ≡ length togs₀
