@@ -142,7 +142,7 @@ pub fn is_made(outcome: Outcome) -> bool
     }
 }
 
-fn is_bad(outcome: Outcome) -> bool
+pub fn is_bad(outcome: Outcome) -> bool
     ensures { λ r. ⌜ r ≡ isBad outcome ⌝ }
 {
     match outcome {

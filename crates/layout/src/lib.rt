@@ -1,0 +1,139 @@
+// What a plan comes to: refusals 8 and 9, how many records are written, and where tables stand.
+use plan::Outcome;
+ghost use mathlib.Core.Path.{_≡_};
+ghost use Prim.Native.Nat.{_+_, _*_, _-_, _<_, _≤_};
+ghost use lib.ListN.{getD};
+ghost use Rattle.laws.specs.Choice.{both, either};
+ghost use Rattle.records.specs.Records.{leadsToFormat, Placed, Counted};
+ghost use Rattle.plan.specs.Plan.{isMade, sizeOf, refused8, refused9, counts, Short, Small};
+ghost use Rattle.result.specs.Result.{isWritten, makerOf, countFrom, sizesFrom, written, resultLength};
+ghost use Rattle.layout.specs.Layout.{Inside};
+
+// Refusal 8.
+pub fn names_missing(os: [Outcome; 64]) -> bool
+    ensures { λ r. ⌜ r ≡ refused8 os ⌝ }
+{
+    let mut k = 0;
+    while k < 64 {
+        if plan::is_bad(os[k]) {
+            return true;
+        }
+        k += 1;
+    }
+    false
+}
+
+// Whether record k made a format 4 or 12 table.
+fn counts(s: &[u8], os: [Outcome; 64], k: usize) -> bool
+    requires { ⌜ Inside (now s) k ⌝ }
+    ensures { λ r. ⌜ r ≡ counts (now (s .entry)) os k ⌝ }
+{
+    if plan::is_made(os[k]) {
+        return is_plain(s, k);
+    }
+    false
+}
+
+// Whether record k leads to a format 4 or 12.
+fn is_plain(s: &[u8], k: usize) -> bool
+    requires { ⌜ Placed (now s) k ⌝ }
+    ensures { λ r. ⌜ r ≡ either (leadsToFormat 4 (now (s .entry)) k) (leadsToFormat 12 (now (s .entry)) k) ⌝ }
+{
+    if records::leads_to_format(s, k, 4) {
+        return true;
+    }
+    records::leads_to_format(s, k, 12)
+}
+
+// Refusal 9.
+pub fn lacks_plain(s: &[u8], m: usize, os: [Outcome; 64]) -> bool
+    requires { ⌜ Counted (now s) m ⌝ }
+    requires { ⌜ m ≤ 64 ⌝ }
+    ensures { λ r. ⌜ r ≡ refused9 (now (s .entry)) os ⌝ }
+{
+    let mut k = 0;
+    while k < m {
+        if counts(s, os, k) {
+            return false;
+        }
+        k += 1;
+    }
+    true
+}
+
+pub fn is_written(o: Outcome) -> bool
+    ensures { λ r. ⌜ r ≡ isWritten o ⌝ }
+{
+    match o {
+        Outcome::NotRetained => false,
+        Outcome::Skipped => false,
+        Outcome::Empty => false,
+        Outcome::TooLong => false,
+        Outcome::Covered => false,
+        Outcome::BadMapping => false,
+        Outcome::Served(_) => true,
+        Outcome::Made(_) => true,
+    }
+}
+
+pub fn size_of(o: Outcome) -> usize
+    ensures { λ r. ⌜ r ≡ sizeOf o ⌝ }
+{
+    match o {
+        Outcome::NotRetained => 0,
+        Outcome::Skipped => 0,
+        Outcome::Empty => 0,
+        Outcome::TooLong => 0,
+        Outcome::Covered => 0,
+        Outcome::BadMapping => 0,
+        Outcome::Served(_) => 0,
+        Outcome::Made(size) => size,
+    }
+}
+
+// The record whose table record k is written with.
+pub fn maker_of(o: Outcome, k: usize) -> usize
+    ensures { λ r. ⌜ r ≡ makerOf o k ⌝ }
+{
+    match o {
+        Outcome::Served(by) => by,
+        Outcome::NotRetained => k,
+        Outcome::Skipped => k,
+        Outcome::Empty => k,
+        Outcome::TooLong => k,
+        Outcome::Covered => k,
+        Outcome::BadMapping => k,
+        Outcome::Made(_) => k,
+    }
+}
+
+// How many records are written.
+pub fn count_written(os: [Outcome; 64]) -> usize
+    ensures { λ r. ⌜ (r ≡ written os) × (r ≤ 64) ⌝ }
+{
+    let mut n: usize = 0;
+    let mut k = 0;
+    while k < 64 {
+        let o = os[k];
+        k += 1;
+        if is_written(o) {
+            n += 1;
+        }
+    }
+    n
+}
+
+// The lengths of the tables that the records from k on made, together.
+pub fn sizes_from(os: [Outcome; 64], k: usize) -> usize
+    requires { ⌜ Small os ⌝ }
+    requires { ⌜ k ≤ 64 ⌝ }
+    ensures { λ r. ⌜ (r ≡ sizesFrom os (64 - k) k) × (r ≤ 64 * 4294967296) ⌝ }
+{
+    let mut n: usize = 0;
+    let mut i = k;
+    while i < 64 {
+        n += size_of(os[i]);
+        i += 1;
+    }
+    n
+}
