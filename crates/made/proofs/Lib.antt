@@ -1,2 +1,3 @@
 pub mod ListedLaws
 pub mod MadeLaws
+pub mod Format14Laws
