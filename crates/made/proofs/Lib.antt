@@ -1,3 +1,4 @@
 pub mod ListedLaws
 pub mod MadeLaws
 pub mod Format14Laws
+pub mod TablesLaws
