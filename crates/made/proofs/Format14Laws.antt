@@ -1,8 +1,7 @@
 -- How long a new format 14 subtable can be, and that it is readable as itself: its number of selector records and its own length.
-use Prim.Native.Nat.{ℕ, zero, suc, _+_, _-_, _*_, _/_, _%_, _^_, _≤_, _<_}
-use mathlib.Core.Path.{_≡_, refl, sym, ap, _∙_}
+use Prim.Native.Nat.{ℕ, zero, suc, _+_, _-_, _*_, _/_, _%_, _≤_, _<_}
+use mathlib.Core.Path.{_≡_, sym, ap, _∙_}
 use mathlib.Core.List.{List, [], _∷_, _++_, map}
-use mathlib.Core.Bool.{Bool, true, false}
 use native.Mathlib.Omega.{arith}
 use lib.Dec.{eqb}
 use lib.ListN.{length, length-append}
@@ -28,8 +27,8 @@ use Rattle.selector_tables.specs.Selectors.{Given, selectorRecords, defaultOffs
 use Rattle.selector_tables.specs.ByNumber.{slot, tableMax}
 use Rattle.selector_tables.proofs.ShapeLaws.{length-default, length-non-default}
 use Rattle.selector_tables.proofs.ByNumberLaws.{counts-fits}
-use Rattle.format14.specs.Format14.{Row, rowOf, used, keptRecords, rows, written, tablesStart, lengthOf, rowBytes, header, format14}
-use Rattle.format14.specs.Ends.{from, Written}
+use Rattle.format14.specs.Format14.{Row, rowOf, used, keptRecords, rows, written, lengthOf, rowBytes, header, format14}
+use Rattle.format14.specs.Ends.{from}
 use Rattle.format14.proofs.SlotsLaws.{from-missing, from-there}
 use Rattle.format14.proofs.RowsLaws.{written-rows}
 use Rattle.format14.proofs.WholeLaws.{length-format14}
@@ -88,8 +87,14 @@ module _ (g : Given) (m : Modest g) where
 
   pub rows-few : length (rows g) ≤ 512
   rows-few =
-      omega (arith, length-select used (map (rowOf g) (keptRecords g (selectorRecords g) 0)), length-map (rowOf g) (keptRecords g (selectorRecords g) 0),
-        length-select (keepsSelector g) (each (λ i. i) (selectorRecords g) 0), length-each (λ i. i) (selectorRecords g) 0, m .few)
+      omega (
+        arith,
+        length-select used (map (rowOf g) (keptRecords g (selectorRecords g) 0)),
+        length-map (rowOf g) (keptRecords g (selectorRecords g) 0),
+        length-select (keepsSelector g) (each (λ i. i) (selectorRecords g) 0),
+        length-each (λ i. i) (selectorRecords g) 0,
+        m .few,
+      )
 
   tables-short : length (concat (written (rows g))) ≤ 1073741824
   tables-short =

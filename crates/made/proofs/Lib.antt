@@ -2,3 +2,4 @@ pub mod ListedLaws
 pub mod MadeLaws
 pub mod Format14Laws
 pub mod TablesLaws
+pub mod PlanLaws

@@ -6,9 +6,9 @@ use mathlib.Core.Bool.{Bool, true, false}
 use native.Mathlib.Omega.{arith}
 use lib.Dec.{eqb}
 use lib.ListN.{length, getD}
-use borrow.Author.Tests.{eq-eqb, ne-eqb, eqb-true, eqb-false}
+use borrow.Author.Tests.{eqb-true}
 use Rattle.laws.specs.Choice.{pick}
-use Rattle.laws.specs.Lists.{Pair, pairs, Rising}
+use Rattle.laws.specs.Lists.{Pair, pairs}
 use Rattle.laws.specs.Linked.{Each}
 use Rattle.laws.specs.Listed as laws
 use Rattle.laws.specs.Select.{select}
@@ -21,7 +21,7 @@ use Rattle.listing.specs.Listing.{maps, listed, codesOf}
 use Rattle.making.proofs.MakingLaws.{listed-below}
 use Rattle.cut_lookup.specs.Lookup.{Fits, Listed}
 use Rattle.format12_lookup.specs.Lookup.{Above, above-none, above-more}
-use Rattle.format12_lookup.proofs.LookupLaws.{above-pairs, above-first}
+use Rattle.format12_lookup.proofs.LookupLaws.{above-pairs}
 use Rattle.plan.specs.Plan.{listedOf}
 use Rattle.made.specs.Lent.{Lent}
 

@@ -1,8 +1,8 @@
 -- What it takes for a record to make a table, and that the table is as long as the plan says.
-use Prim.Native.Nat.{ℕ, _+_, _≤_, _<_}
+use Prim.Native.Nat.{ℕ, _+_, _<_}
 use mathlib.Core.Path.{_≡_, refl, sym, ap, subst, _∙_}
 use mathlib.Core.List.{List, [], _∷_}
-use mathlib.Core.Bool.{Bool, true, false}
+use mathlib.Core.Bool.{false}
 use native.Mathlib.Omega.{arith}
 use lib.Dec.{leb}
 use lib.ListN.{length}
@@ -30,14 +30,14 @@ use Rattle.format12.specs.Format12.{groups}
 use Rattle.format12.proofs.TableLaws.{length-table}
 use Rattle.format14.specs.declared.Outcome.{Outcome as Outcome14}
 use Rattle.format14.specs.declared.Outcome.the-variants.{Refused8, Empty as Empty14, Length}
-use Rattle.format14.specs.Format14.{rows, format14, outcome as outcome14}
+use Rattle.format14.specs.Format14.{outcome as outcome14}
 use Rattle.format14.proofs.WholeLaws.{outcome-says}
 use Rattle.plan.specs.declared.Outcome.{Outcome}
 use Rattle.plan.specs.declared.Outcome.the-variants.{Skipped, Made}
 use Rattle.plan.specs.Plan.{listedOf, givenOf, tableAs, tableOf, by4, by14, freshAs, fresh, isMade, sizeOf}
 
 -- another outcome than a made table
-not-made : (P : Type 0) (o : Outcome) (n : ℕ) → isMade o ≡ false → o ≡ Made n → P
+pub not-made : (P : Type 0) (o : Outcome) (n : ℕ) → isMade o ≡ false → o ≡ Made n → P
 not-made P o n f e = absurd (false-true (sym f ∙ ap isMade e))
 
 -- ---- by format

@@ -1,6 +1,6 @@
 -- The table that a record makes, wherever it stands: how long it is, as what it is read, and what a lookup finds in it.
-use Prim.Native.Nat.{ℕ, _+_, _*_, _<_, _≤_}
-use mathlib.Core.Path.{_≡_, refl, sym, ap, subst, _∙_}
+use Prim.Native.Nat.{ℕ, _<_}
+use mathlib.Core.Path.{_≡_, sym, ap, subst, _∙_}
 use mathlib.Core.List.{List}
 use native.Mathlib.Omega.{arith}
 use lib.ListN.{length}
@@ -10,7 +10,7 @@ use Rattle.laws.specs.Listed.{listed, listedGlyph}
 use Rattle.laws.proofs.StandsLaws.{Stands}
 use Rattle.ranges.specs.Cutting.{segments}
 use Rattle.source.specs.declared.Kind.{Kind}
-use Rattle.source.specs.declared.Kind.the-variants.{Format4, Format12, Format14, Unreadable}
+use Rattle.source.specs.declared.Kind.the-variants.{Format4, Format12, Format14}
 use Rattle.source.specs.Header.{offsetOf}
 use Rattle.source.specs.Kind.{kindAt, formatOf}
 use Rattle.source.proofs.KindLaws.{tells14}
@@ -19,15 +19,14 @@ use Rattle.lookup.specs.declared.Found.the-variants.{Nothing, Glyph}
 use Rattle.lookup.specs.Lookup.{lookup4, lookup12, glyphOf}
 use Rattle.listing.specs.Job.{Job, glyphCount}
 use Rattle.listing.specs.Listing.{maps}
-use Rattle.format4.specs.Format4.{format4}
 use Rattle.format4_lookup.specs.Lookup.{foundIn}
 use Rattle.format4_lookup.proofs.Format4KindLaws.{format4-kind-stands}
 use Rattle.format4_lookup.proofs.Format4FindsLaws.{format4-gives-stands, format4-finds-stands}
-use Rattle.format12.specs.Format12.{groups, format12}
+use Rattle.format12.specs.Format12.{groups}
 use Rattle.format12_lookup.proofs.BytesLaws.{groups-few}
 use Rattle.format12_lookup.proofs.Format12KindLaws.{length-is, format12-kind-stands}
 use Rattle.format12_lookup.proofs.Format12FindsLaws.{format12-gives-stands, format12-finds-stands}
-use Rattle.format14.specs.Format14.{rows, format14}
+use Rattle.format14.specs.Format14.{rows}
 use Rattle.format14.proofs.WholeLaws.{length-format14}
 use Rattle.plan.specs.declared.Outcome.the-variants.{Made}
 use Rattle.plan.specs.Plan.{listedOf, givenOf, tableAs, tableOf, fresh}
