@@ -3,3 +3,4 @@ pub mod MadeLaws
 pub mod Format14Laws
 pub mod TablesLaws
 pub mod PlanLaws
+pub mod LentLaws

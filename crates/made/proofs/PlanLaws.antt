@@ -10,7 +10,8 @@ use lib.Seq.{getD-set-same, getD-set-other}
 use borrow.Author.Tests.{ltb-true, ltb-false, eqb-true, eq-eqb}
 use Rattle.laws.specs.Choice.{pick, both}
 use Rattle.laws.specs.Search.{first}
-use Rattle.laws.proofs.ChoiceLaws.{by-pick, by-leb, both-left, both-right, false-true}
+use Rattle.laws.proofs.ChoiceLaws.{by-pick, by-leb, both-left, both-right, false-true, not-true}
+use Rattle.laws.proofs.EitherLaws.{true-of-not}
 use Rattle.laws.proofs.SeekingLaws.{first-holds, first-none}
 use Rattle.number.specs.Limits.{recordsMax}
 use Rattle.source.specs.declared.Kind.{Kind}
@@ -63,14 +64,6 @@ module _ (j : Job) where
 
 -- ---- by outcome
 
-not-false : (b : Bool) → not b ≡ false → b ≡ true
-not-false true e = refl
-not-false false e = absurd (false-true (sym e))
-
-not-true : (b : Bool) → not b ≡ true → b ≡ false
-not-true true e = absurd (false-true e)
-not-true false e = refl
-
 module _ (j : Job) (os : List Outcome) (k : ℕ) where
   -- the first record before k whose table would serve it; k if there is none
   abbrev server : ℕ
@@ -87,12 +80,12 @@ module _ (j : Job) (os : List Outcome) (k : ℕ) where
   unfolding outcomeOf
   by-outcome P a b c d =
       by-pick P (not keeps) NotRetained (pick covers Covered (pick (ltb server k) (Served server) (fresh j k)))
-      (λ e. a (not-true keeps e))
+      (λ e. a (not-true keeps (λ q. false-true (rw q at e))))
       (λ e. by-pick P covers Covered (pick (ltb server k) (Served server) (fresh j k))
-      (λ f. b (not-false keeps e) f)
+      (λ f. b (true-of-not keeps e) f)
       (λ f. by-pick P (ltb server k) (Served server) (fresh j k)
-      (λ g. c (not-false keeps e) f (ltb-true server k g))
-      (λ g. d (not-false keeps e) f (ltb-false server k g))))
+      (λ g. c (true-of-not keeps e) f (ltb-true server k g))
+      (λ g. d (true-of-not keeps e) f (ltb-false server k g))))
 
 -- ---- only the walk says that a record is served
 
