@@ -7,8 +7,8 @@ use lib.ListN.{length, length-append}
 use lib.Seq.{sets}
 use Rattle.laws.specs.Lists.{pairs}
 use Rattle.laws.proofs.SetsLaws.{sets-append}
-use Rattle.number.specs.Columns.{encs}
-use Rattle.number.proofs.ColumnsLaws.{length-encs}
+use Rattle.number.specs.Row.{encs}
+use Rattle.number.proofs.RowLaws.{length-encs}
 use Rattle.format12.specs.declared.Group.{Group}
 use Rattle.format12.specs.Format12.{groups, fields, tableLength, header, table, format12, Columns, Room}
 use Rattle.format12.proofs.GroupsLaws.{length-groups}

@@ -9,8 +9,8 @@ use lib.ListN.{length, getD, drop, length-append, drop-of-length-le}
 use lib.Seq.{sets, drop-cons, length-sets}
 use Rattle.laws.specs.Lists.{pairs}
 use Rattle.laws.proofs.SetsLaws.{sets-append}
-use Rattle.number.specs.Columns.{encs}
-use Rattle.number.proofs.ColumnsLaws.{length-encs, encs-append}
+use Rattle.number.specs.Row.{encs}
+use Rattle.number.proofs.RowLaws.{length-encs, encs-append}
 use Rattle.format12.specs.declared.Group.{Group}
 use Rattle.format12.specs.declared.GroupState.{GroupState}
 use Rattle.format12.specs.declared.Absorbed.{Absorbed}

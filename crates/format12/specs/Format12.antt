@@ -9,7 +9,7 @@ use lib.Dec.{eqb}
 use Rattle.laws.specs.Choice.{both}
 use Rattle.laws.specs.Lists.{Pair}
 use Rattle.laws.specs.Pieces.{pieces}
-use Rattle.number.specs.Columns.{encs}
+use Rattle.number.specs.Row.{encs}
 use Rattle.format12.specs.declared.Group.{Group}
 use Rattle.format12.specs.declared.Size.{Size}
 

@@ -5,7 +5,7 @@ ghost use Prim.Native.Nat.{_+_, _*_, _≤_};
 ghost use lib.ListN.{length};
 ghost use lib.Seq.{sets};
 ghost use Rattle.laws.specs.Lists.{pairs};
-ghost use Rattle.number.specs.Columns.{encs};
+ghost use Rattle.number.specs.Row.{encs};
 ghost use Rattle.format12.specs.Format12.{groups, fields, header, format12, sizeOf, Columns, Room};
 ghost use Rattle.format12.specs.Steps.{isConsecutive, goesOn, Counted, idle, upTo, finish, step, toList};
 

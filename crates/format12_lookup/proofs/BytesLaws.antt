@@ -10,11 +10,13 @@ use Rattle.laws.specs.Pieces.{pieces, concat}
 use Rattle.laws.proofs.LengthLaws.{length-map}
 use Rattle.laws.proofs.PiecesLaws.{Joined, concat-pieces}
 use Rattle.laws.proofs.PartedLaws.{Parted, parted-none, parted-last, parted-more, pieces-parted, length-pieces}
+use Rattle.laws.proofs.StandsLaws.{stands-append}
 use Rattle.number.specs.BigEndian.{be}
-use Rattle.number.specs.Columns.{encs}
+use Rattle.number.specs.Row.{encs}
 use Rattle.number.specs.Limits.{unicodeMax}
 use Rattle.number.proofs.BigEndianLaws.{be-front, be-back}
-use Rattle.number.proofs.ColumnsLaws.{length-encs, be-encs, be-between}
+use Rattle.number.proofs.RowLaws.{length-encs, be-encs-fits}
+use Rattle.number.proofs.StandsLaws.{be-stands}
 use Rattle.format12.specs.declared.Group.{Group}
 use Rattle.format12.specs.Format12.{consecutive, group, groupOf, grouped, groups, fields, tableLength, header, table, format12}
 use Rattle.format12.proofs.GroupsLaws.{last-joined}
@@ -87,8 +89,8 @@ module _ (front back : List ℕ) (format language : ℕ) (gs : List Group) where
       let hd = header format language (length gs) in
       let b = encs 4 (fields gs) in
       let p : 16 + 4 * j ≡ length hd + 4 * j = omega (arith, length-header format language (length gs)) in
-      be-between 4 front (hd ++ b) back (16 + 4 * j) at e (rw (length-append hd b) (omega (arith, length-header format language (length gs), length-encs 4 (fields gs), l)))
-      ∙ rw p (be-back 4 hd b (4 * j) ∙ be-encs 4 (fields gs) j h)
+      be-stands (stands-append front (hd ++ b) back) 4 (16 + 4 * j) at e (rw (length-append hd b) (omega (arith, length-header format language (length gs), length-encs 4 (fields gs), l)))
+      ∙ rw p (be-back 4 hd b (4 * j) ∙ be-encs-fits 4 (fields gs) j h)
 
   table-group : Fit (fields gs) → (k : ℕ) (d : Group) → k < length gs → groupAt (front ++ (table format language gs ++ back)) (length front) k ≡ getD gs k d
   table-group f k d h =
@@ -109,7 +111,7 @@ module _ (format language n : ℕ) (rest : List ℕ) where
   header-format h =
       be-front 2 (encs 2 (format ∷ 0 ∷ []) ++ encs 4 (tableLength n ∷ language ∷ n ∷ [])) rest 0 (rw (length-append (encs 2 (format ∷ 0 ∷ [])) (encs 4 (tableLength n ∷ language ∷ n ∷ [])), length-encs 2 (format ∷ 0 ∷ [])) (omega arith))
       ∙ be-front 2 (encs 2 (format ∷ 0 ∷ [])) (encs 4 (tableLength n ∷ language ∷ n ∷ [])) 0 (rw (length-encs 2 (format ∷ 0 ∷ [])) (omega arith))
-      ∙ be-encs 2 (format ∷ 0 ∷ []) 0 h
+      ∙ be-encs-fits 2 (format ∷ 0 ∷ []) 0 h
 
   header-number : (k at : ℕ) → k < 3 → at ≡ 4 + 4 * k → getD (tableLength n ∷ language ∷ n ∷ []) k 0 < 256 ^ 4
       → be 4 (header format language n ++ rest) at ≡ getD (tableLength n ∷ language ∷ n ∷ []) k 0
@@ -118,7 +120,7 @@ module _ (format language n : ℕ) (rest : List ℕ) where
       let ns = tableLength n ∷ language ∷ n ∷ [] in
       let p : at ≡ length (encs 2 (format ∷ 0 ∷ [])) + 4 * k = omega (arith, e, length-encs 2 (format ∷ 0 ∷ [])) in
       be-front 4 (encs 2 (format ∷ 0 ∷ []) ++ encs 4 ns) rest at (rw (length-append (encs 2 (format ∷ 0 ∷ [])) (encs 4 ns), length-encs 2 (format ∷ 0 ∷ []), length-encs 4 ns) (omega (arith, e, l)))
-      ∙ rw p (be-back 4 (encs 2 (format ∷ 0 ∷ [])) (encs 4 ns) (4 * k) ∙ be-encs 4 ns k h)
+      ∙ rw p (be-back 4 (encs 2 (format ∷ 0 ∷ [])) (encs 4 ns) (4 * k) ∙ be-encs-fits 4 ns k h)
 
 -- ---- the subtable of the pairs, between other bytes
 
@@ -133,12 +135,12 @@ module _ (front back : List ℕ) (language : ℕ) (ps : List Pair) where
       let m = groups-few ps above in
       let n = length (groups ps) in
       let b = encs 4 (fields (groups ps)) in
-      let t = format12 language ps in
+      let st = stands-append front (format12 language ps) back in
       let a = length front in
       let e = length-table 12 language (groups ps) in
       record {
-        format-is = be-between 2 front t back 0 a (omega arith) (omega (arith, e)) ∙ header-format 12 language n b (omega arith);
-        length-is = be-between 4 front t back 4 (a + 4) refl (omega (arith, e)) ∙ header-number 12 language n b 0 4 (omega arith) (omega arith) (omega (arith, m));
-        language-is = be-between 4 front t back 8 (a + 8) refl (omega (arith, e)) ∙ header-number 12 language n b 1 8 (omega arith) (omega arith) (omega (arith, l));
-        count-is = be-between 4 front t back 12 (a + 12) refl (omega (arith, e)) ∙ header-number 12 language n b 2 12 (omega arith) (omega arith) (omega (arith, m));
+        format-is = be-stands st 2 0 a (omega arith) (omega (arith, e)) ∙ header-format 12 language n b (omega arith);
+        length-is = be-stands st 4 4 (a + 4) refl (omega (arith, e)) ∙ header-number 12 language n b 0 4 (omega arith) (omega arith) (omega (arith, m));
+        language-is = be-stands st 4 8 (a + 8) refl (omega (arith, e)) ∙ header-number 12 language n b 1 8 (omega arith) (omega arith) (omega (arith, l));
+        count-is = be-stands st 4 12 (a + 12) refl (omega (arith, e)) ∙ header-number 12 language n b 2 12 (omega arith) (omega arith) (omega (arith, m));
       }

@@ -5,7 +5,7 @@ use lib.ListN.{length}
 use Rattle.laws.specs.Lists.{Pair}
 use Rattle.laws.specs.Pieces.{pieces}
 use Rattle.number.specs.BigEndian.{enc}
-use Rattle.number.specs.Columns.{encs}
+use Rattle.number.specs.Row.{encs}
 use Rattle.format12.specs.Format12.{consecutive, group, grouped, groups, header, table, format12}
 
 abbrev c8 : List Pair

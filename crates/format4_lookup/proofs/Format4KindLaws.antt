@@ -1,14 +1,11 @@
 -- A written format 4 subtable is readable, as itself: its language, its number of segments, and its own length.
 use Prim.Native.Nat.{ℕ, _+_, _*_, _≤_, _<_}
-use mathlib.Core.Path.{_≡_, refl, sym, ap, subst, _∙_}
-use mathlib.Core.List.{List, [], _∷_, _++_}
+use mathlib.Core.Path.{_≡_, refl, sym, ap, _∙_}
+use mathlib.Core.List.{List, _++_}
 use native.Mathlib.Omega.{arith}
-use borrow.Author.Tests.{leb-true}
-use lib.Dec.{leb}
 use lib.ListN.{length}
 use lib.Seq.{sets}
 use Rattle.laws.specs.Lists.{Pair}
-use Rattle.laws.proofs.ChoiceLaws.{by-pick}
 use Rattle.laws.proofs.StandsLaws.{Stands, stands-append, stands-sets}
 use Rattle.number.specs.BigEndian.{be}
 use Rattle.ranges.specs.Cutting.{segments, glyphArray}
@@ -18,10 +15,10 @@ use Rattle.source.proofs.KindLaws.{gives4, Readable4}
 use Rattle.source.proofs.StandsLaws.{kind-stands}
 use Rattle.format4.specs.Format4.{lengthWith, header, format4}
 use Rattle.format4.specs.declared.RangeCounter.{RangeCounter}
-use Rattle.format4.specs.declared.Size.{Size}
-use Rattle.format4.specs.declared.Size.the-variants.{Empty, TooLong, Fits}
-use Rattle.format4.specs.Size.{sizeOf, countOf, lengthOf}
+use Rattle.format4.specs.declared.Size.the-variants.{Fits}
+use Rattle.format4.specs.Size.{sizeOf}
 use Rattle.format4.proofs.Format4Laws.{length-format4}
+use Rattle.format4.proofs.CountLaws.{fits-tells, length-told}
 use Rattle.cut_lookup.proofs.FitsLaws.{segments-some}
 use Rattle.format4_lookup.specs.Lookup.{Written}
 use Rattle.format4_lookup.proofs.ColumnsAtLaws.{segments-are, array-is, format4-numbers, number-at}
@@ -76,19 +73,8 @@ module _ (language : ℕ) (ps : List Pair) where
 
 -- ---- a size that fits
 
-module _ (language : ℕ) (ps : List Pair) where
-  abbrev Told : Size → Type 0
-  Told Empty = Unit {0}
-  Told TooLong = Unit {0}
-  Told (Fits n) = length (format4 language ps) ≤ 65535
-
-sized : (language : ℕ) (ps : List Pair) → Told language ps (sizeOf ps)
-unfolding sizeOf
-sized language [] = tt
-sized language (p ∷ ps) =
-    by-pick (Told language (p ∷ ps)) (leb (lengthOf (countOf (p ∷ ps))) 65535) (Fits (countOf (p ∷ ps))) TooLong
-    (λ e. rw (length-format4 language (p ∷ ps)) (leb-true (lengthOf (countOf (p ∷ ps))) 65535 e)) (λ _. tt)
-
 -- where the size is found to fit, the subtable can be written
 pub fits-written : {n : RangeCounter} (language : ℕ) (ps : List Pair) → sizeOf ps ≡ Fits n → language < 65536 → Written language ps
-fits-written language ps e h = record { short = subst (Told language ps) e (sized language ps); language-fits = h }
+fits-written {n} language ps e h =
+    let t = fits-tells ps n e in
+    record { short = rw (length-told language ps n t) (t .short); language-fits = h }

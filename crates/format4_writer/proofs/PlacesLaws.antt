@@ -7,7 +7,8 @@ use lib.Dec.{eqb}
 use lib.ListN.{length, length-drop, getD, take, drop, length-map}
 use lib.Seq.{sets, drop-cons, drop-drop, length-take-le}
 use Rattle.laws.specs.Choice.{pick}
-use Rattle.laws.proofs.RunsLaws.{sets-sets, Column, fronts-rests}
+use Rattle.laws.proofs.RunsLaws.{Column, fronts-rests}
+use Rattle.laws.proofs.SetsCommLaws.{sets-comm}
 use Rattle.number.specs.BigEndian.{put, enc}
 use Rattle.number.specs.Row.{encs}
 use Rattle.number.proofs.BigEndianLaws.{length-put}
@@ -139,7 +140,7 @@ whole-subtable language gs ss o at =
     let lF = length-offsets 0 ss in
     let rE = length-column endOf ss in
     ap (λ (k : List ℕ). sets (sets (sets (sets k (at + 16 + 2 * s) (encs 2 S)) (at + 16 + 4 * s) (encs 2 D)) (at + 16 + 6 * s) (encs 2 F)) (at + 16 + 8 * s) (encs 2 A))
-    (sets-sets (encs 2 Z) (sets o at (encs 2 H)) (at + 14 + 2 * s) (at + 14) (encs 2 E) (omega arith))
+    (sets-comm (encs 2 E) (sets o at (encs 2 H)) (at + 14 + 2 * s) (at + 14) (encs 2 Z) (omega arith))
     ∙ encs-then 2 F A _ (at + 16 + 6 * s) (at + 16 + 8 * s) (omega arith)
     ∙ encs-then 2 D (F ++ A) _ (at + 16 + 4 * s) (at + 16 + 6 * s) (omega arith)
     ∙ encs-then 2 S (D ++ (F ++ A)) _ (at + 16 + 2 * s) (at + 16 + 4 * s) (omega arith)

@@ -4,9 +4,10 @@ use mathlib.Core.Path.{_≡_, refl, _∙_}
 use mathlib.Core.List.{List, [], _∷_, _++_}
 use native.Mathlib.Omega.{arith}
 use lib.ListN.{length, getD, drop, set}
-use lib.Seq.{sets, sets-eq, set-set, set-comm}
+use lib.Seq.{sets, sets-eq, set-set}
 use Rattle.laws.specs.Lists.{Rising}
 use Rattle.laws.proofs.RisingLaws.{rising-lt}
+use Rattle.laws.proofs.SetsCommLaws.{set-sets}
 
 -- ---- stores
 
@@ -15,19 +16,13 @@ sets-front l vs h =
     let z : 0 + length vs ≡ length vs = omega arith in
     sets-eq vs l 0 (rw z h) ∙ rw z
 
--- a store before a run of stores, made after it
-set-sets : (l : List ℕ) (i j : ℕ) (vs : List ℕ) (w : ℕ) → i < j → set (sets l j vs) i w ≡ sets (set l i w) j vs
-set-sets l i j [] w h = refl
-set-sets l i j (v ∷ vs) w h =
-    rw (set-sets (set l j v) i (suc j) vs w (omega arith), set-comm l j i v w (λ e. omega arith))
-
 -- a run of stores over another of the same length
 pub sets-over : (l : List ℕ) (i : ℕ) (vs ws : List ℕ) → length vs ≡ length ws → sets (sets l i vs) i ws ≡ sets l i ws
 sets-over l i [] [] h = refl
 sets-over l i [] (w ∷ ws) h = absurd (omega arith)
 sets-over l i (v ∷ vs) [] h = absurd (omega arith)
 sets-over l i (v ∷ vs) (w ∷ ws) h =
-    rw (set-sets (set l i v) i (suc i) vs w (omega arith), set-set l i v w) (sets-over (set l i w) (suc i) vs ws (omega arith))
+    rw (set-sets vs (set l i v) (suc i) i w (omega arith), set-set l i v w) (sets-over (set l i w) (suc i) vs ws (omega arith))
 
 -- ---- rising lists
 

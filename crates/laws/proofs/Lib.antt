@@ -14,7 +14,6 @@ pub mod RunsLaws
 pub mod PartedLaws
 pub mod TestLaws
 pub mod PairsLaws
-pub mod SameLaws
 pub mod LookingLaws
 pub mod FirstLaws
 pub mod LengthLaws

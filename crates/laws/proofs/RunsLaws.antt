@@ -1,22 +1,11 @@
 -- Several runs of stores: one that lies before the others may be made first, so columns may be written row by row.
-use Prim.Native.Nat.{ℕ, suc, _+_, _≤_}
+use Prim.Native.Nat.{ℕ, _+_, _≤_}
 use mathlib.Core.Path.{_≡_, refl, ap, _∙_}
 use mathlib.Core.List.{List, [], _∷_, _++_}
-use native.Mathlib.Omega.{arith}
-use lib.ListN.{length, set}
-use lib.Seq.{sets, set-comm}
+use lib.ListN.{length}
+use lib.Seq.{sets}
 use Rattle.laws.proofs.SetsLaws.{sets-append}
-
-sets-set : (l : List ℕ) (j a i : ℕ) (vs : List ℕ) → i + length vs ≤ j → sets (set l j a) i vs ≡ set (sets l i vs) j a
-sets-set l j a i [] h = refl
-sets-set l j a i (v ∷ vs) h =
-    ap (λ (k : List ℕ). sets k (suc i) vs) (set-comm l j i a v (λ e. omega arith)) ∙ sets-set (set l i v) j a (suc i) vs (omega arith)
-
--- stores that lie before others may be made first
-pub sets-sets : (us l : List ℕ) (j i : ℕ) (vs : List ℕ) → i + length vs ≤ j → sets (sets l j us) i vs ≡ sets (sets l i vs) j us
-sets-sets [] l j i vs h = refl
-sets-sets (u ∷ us) l j i vs h =
-    sets-sets us (set l j u) (suc j) i vs (omega arith) ∙ ap (λ (k : List ℕ). sets k (suc j) us) (sets-set l j u i vs h)
+use Rattle.laws.proofs.SetsCommLaws.{sets-comm}
 
 -- ---- a list of runs, each with its place
 
@@ -34,7 +23,7 @@ Past end (r ∷ rs) = (end ≤ r .0) × Past end rs
 
 pub sets-runs : (rs : List Run) (l : List ℕ) (i : ℕ) (vs : List ℕ) → Past (i + length vs) rs → sets (runs l rs) i vs ≡ runs (sets l i vs) rs
 sets-runs [] l i vs p = refl
-sets-runs (r ∷ rs) l i vs p = sets-runs rs (sets l (r .0) (r .1)) i vs (p .1) ∙ ap (λ (k : List ℕ). runs k rs) (sets-sets (r .1) l (r .0) i vs (p .0))
+sets-runs (r ∷ rs) l i vs p = sets-runs rs (sets l (r .0) (r .1)) i vs (p .1) ∙ ap (λ (k : List ℕ). runs k rs) (sets-comm vs l (r .0) i (r .1) (p .0))
 
 -- ---- columns: at each place a front and a rest behind it
 

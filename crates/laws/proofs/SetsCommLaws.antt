@@ -7,7 +7,7 @@ use lib.ListN.{length, set}
 use lib.Seq.{sets, set-comm}
 use Rattle.laws.proofs.SetsLaws.{sets-append}
 
-set-sets : (vs l : List ℕ) (i j a : ℕ) → j < i → set (sets l i vs) j a ≡ sets (set l j a) i vs
+pub set-sets : (vs l : List ℕ) (i j a : ℕ) → j < i → set (sets l i vs) j a ≡ sets (set l j a) i vs
 set-sets [] l i j a h = refl
 set-sets (v ∷ vs) l i j a h =
     set-sets vs (set l i v) (suc i) j a (omega arith)

@@ -4,6 +4,5 @@ pub mod Lists
 pub mod Pieces
 pub mod Select
 pub mod Linked
-pub mod Same
 pub mod Listed
 pub mod Lasts

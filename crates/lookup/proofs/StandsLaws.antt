@@ -5,14 +5,16 @@ use mathlib.Core.List.{List}
 use native.Mathlib.Omega.{arith}
 use lib.Dec.{leb}
 use lib.ListN.{length}
-use Rattle.laws.proofs.SameLaws.{if-lt-same, first-same}
+use Rattle.laws.proofs.BranchLaws.{if-lt-same}
+use Rattle.laws.proofs.FirstLaws.{first-ext}
 use Rattle.laws.proofs.StandsLaws.{Stands}
+use Rattle.number.proofs.StandsLaws.{be-stands}
 use Rattle.source.specs.declared.Kind.{Kind}
 use Rattle.source.specs.declared.Kind.the-variants.{Format4, Format12, Format14, Unreadable}
 use Rattle.source.specs.Kind.{kindAt, lengthOf}
 use Rattle.source.specs.Fields.{endCode, startCode, idDelta, idRangeOffset, arrayEntries, endCharCode}
 use Rattle.source.proofs.KindLaws.{tells4, tells12}
-use Rattle.source.proofs.StandsLaws.{be-stands, kind-stands}
+use Rattle.source.proofs.StandsLaws.{kind-stands}
 use Rattle.lookup.specs.Lookup.{reaches, inArray, inSegment, find4, inGroup, find12, lookup4In, lookup4, lookup12In, lookup12}
 
 module _ {xs t : List ℕ} {at : ℕ} (st : Stands xs at t) where
@@ -42,7 +44,7 @@ module _ {xs t : List ℕ} {at : ℕ} (st : Stands xs at t) where
     pub find4-stands : (c : ℕ) → find4 xs at s len c ≡ find4 t 0 s len c
     unfolding find4
     find4-stands c =
-        let e = first-same (reaches (endCode xs at) c) (reaches (endCode t 0) c) s 0
+        let e = first-ext (reaches (endCode xs at) c) (reaches (endCode t 0) c) s 0
         (λ i a b. ap (leb c) (be-stands st 2 (0 + 14 + 2 * i) (at + 14 + 2 * i) (omega arith) (omega arith))) in
         rw e
         (if-lt-same 0xFFFF c _ _ _ _
@@ -63,7 +65,7 @@ module _ {xs t : List ℕ} {at : ℕ} (st : Stands xs at t) where
     pub find12-stands : (c : ℕ) → find12 xs at n c ≡ find12 t 0 n c
     unfolding find12
     find12-stands c =
-        let e = first-same (reaches (endCharCode xs at) c) (reaches (endCharCode t 0) c) n 0
+        let e = first-ext (reaches (endCharCode xs at) c) (reaches (endCharCode t 0) c) n 0
         (λ i a b. ap (leb c) (be-stands st 4 (0 + 20 + 12 * i) (at + 20 + 12 * i) (omega arith) (omega arith))) in
         rw e (if-lt-same _ n _ _ _ _ (λ k. group-stands _ c k) (λ k. refl))
 

@@ -4,7 +4,7 @@ use mathlib.Core.List.{List, [], _∷_, _++_}
 use mathlib.Core.Bool.{Bool, true}
 use Rattle.laws.specs.Choice.{both}
 use Rattle.laws.specs.Lists.{keep}
-use Rattle.laws.specs.Same.{sameList}
+use Rattle.laws.specs.Select.{eqList}
 use Rattle.number.specs.BigEndian.{enc}
 use Rattle.mapped12.specs.Mapped12.{maps12}
 
@@ -24,7 +24,7 @@ subtable c =
 
 abbrev pub good : List Case → Bool
 good [] = true
-good (c ∷ cs) = both (sameList (keep (maps12 (subtable c) 0 1 (c .n)) (c .asked) (c .asked)) (c .mapped)) (good cs)
+good (c ∷ cs) = both (eqList (keep (maps12 (subtable c) 0 1 (c .n)) (c .asked) (c .asked)) (c .mapped)) (good cs)
 
 -- the first is C10; then a cut end, one past the last glyph; a glyph at n; the last code point; a start past it, which nothing wraps
 abbrev pub cases : List Case

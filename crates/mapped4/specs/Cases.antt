@@ -5,8 +5,8 @@ use mathlib.Core.Bool.{Bool, true}
 use lib.ListN.{length}
 use Rattle.laws.specs.Choice.{both}
 use Rattle.laws.specs.Lists.{keep}
-use Rattle.laws.specs.Same.{sameList}
-use Rattle.number.specs.BigEndian.{enc}
+use Rattle.laws.specs.Select.{eqList}
+use Rattle.number.specs.Row.{encs}
 use Rattle.mapped4.specs.Mapped4.{maps4}
 
 -- a subtable of s segments, the points asked, and those of them that are mapped
@@ -20,19 +20,15 @@ pub record Case : Type 0 where
   pub asked : List ℕ
   pub mapped : List ℕ
 
-abbrev pub words : List ℕ → List ℕ
-words [] = []
-words (v ∷ vs) = enc 2 v ++ words vs
-
 -- the subtable's bytes, its header cleared, since only its place and length count here
 abbrev pub subtable : Case → List ℕ
 subtable c =
-    words ((0 ∷ 0 ∷ 0 ∷ 0 ∷ 0 ∷ 0 ∷ 0 ∷ []) ++ (c .ends ++ ((0 ∷ []) ++ (c .starts ++ (c .deltas ++ (c .offsets ++ c .array))))))
+    encs 2 ((0 ∷ 0 ∷ 0 ∷ 0 ∷ 0 ∷ 0 ∷ 0 ∷ []) ++ (c .ends ++ ((0 ∷ []) ++ (c .starts ++ (c .deltas ++ (c .offsets ++ c .array))))))
 
 abbrev pub good : List Case → Bool
 good [] = true
 good (c ∷ cs) =
-    both (sameList (keep (maps4 (subtable c) 0 (c .s) (length (subtable c))) (c .asked) (c .asked)) (c .mapped)) (good cs)
+    both (eqList (keep (maps4 (subtable c) 0 (c .s) (length (subtable c))) (c .asked) (c .asked)) (c .mapped)) (good cs)
 
 -- C1's segments; a segment that starts lower and ends at U+FFFF; a start's index that is negative; an entry 0, and an index past the array,
 -- with a delta that is not added; two segments that hold 11, of which the later decides; a segment behind a start of 0xFFFF

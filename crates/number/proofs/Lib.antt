@@ -1,4 +1,3 @@
 pub mod BigEndianLaws
 pub mod RowLaws
-pub mod ColumnsLaws
 pub mod StandsLaws

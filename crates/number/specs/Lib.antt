@@ -1,4 +1,3 @@
 pub mod BigEndian
-pub mod Columns
 pub mod Limits
 pub mod Row

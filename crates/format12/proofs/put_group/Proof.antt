@@ -1,7 +1,7 @@
 -- Three numbers of four bytes, each behind the one before.
 use native.Mathlib.Omega.{arith}
 use Rattle.number.specs.BigEndian.{enc}
-use Rattle.number.specs.Columns.{encs}
+use Rattle.number.specs.Row.{encs}
 use Rattle.number.proofs.BigEndianLaws.{written-first, written-on}
 use borrow.Author.Needs.{needs}
 use Rattle.format12.proofs.put_group.Statement.{statement}

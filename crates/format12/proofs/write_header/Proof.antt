@@ -1,7 +1,7 @@
 -- Two numbers of two bytes and three of four, each behind the one before.
 use native.Mathlib.Omega.{arith}
 use Rattle.number.specs.BigEndian.{enc}
-use Rattle.number.specs.Columns.{encs}
+use Rattle.number.specs.Row.{encs}
 use Rattle.number.proofs.BigEndianLaws.{written-first, written-on}
 use Rattle.format12.specs.Format12.{header}
 use borrow.Author.Needs.{needs}
