@@ -1,6 +1,8 @@
 // A job's bytes taken apart: where its five records stand, and their numbers copied into lent arrays.
 ghost use mathlib.Core.Path.{_≡_};
 ghost use Prim.Native.Nat.{_≤_};
+ghost use lib.Seq.{sets};
+ghost use Rattle.job_input.specs.Column.{column, Fits};
 ghost use Rattle.job_input.specs.Job.{within, fieldAt, locatedLists, located};
 
 // The marks.
@@ -125,4 +127,28 @@ pub fn locate(s: &[u8]) -> Located
         return Located::Damaged;
     };
     locate_lists(s, source, pairs)
+}
+
+// Copies n numbers of four bytes to the front of out: the first stands at `at`, each next one `stride` bytes further.
+fn fill_u32(s: &[u8], at: usize, stride: usize, n: usize, out: &mut [u32])
+    requires { ⌜ Fits 4 stride (now s) at n (now out) ⌝ }
+    ensures { λ _. ⌜ now (out .exit) ≡ sets (now (out .entry)) 0 (column 4 stride (now (s .entry)) at n) ⌝ }
+{
+    let mut i = 0;
+    while i < n {
+        out[i] = number::u32_at(s, at + stride * i);
+        i += 1;
+    }
+}
+
+// The same for numbers of two bytes.
+fn fill_u16(s: &[u8], at: usize, stride: usize, n: usize, out: &mut [u16])
+    requires { ⌜ Fits 2 stride (now s) at n (now out) ⌝ }
+    ensures { λ _. ⌜ now (out .exit) ≡ sets (now (out .entry)) 0 (column 2 stride (now (s .entry)) at n) ⌝ }
+{
+    let mut i = 0;
+    while i < n {
+        out[i] = number::u16_at(s, at + stride * i) as u16;
+        i += 1;
+    }
 }
