@@ -1,21 +1,23 @@
 -- Which bytes make a record, and what one record after the other leaves.
-use Prim.Native.Nat.{ℕ, _+_, _/_, _≤_}
-use mathlib.Core.Path.{_≡_, refl, sym, _∙_}
+use Prim.Native.Nat.{ℕ, _+_, _*_, _/_, _%_, _≤_}
+use native.Mathlib.Nat.{mul-div-le}
+use mathlib.Core.Path.{_≡_, refl, sym, ap, subst, _∙_}
 use mathlib.Core.List.{List}
 use mathlib.Core.Bool.{Bool, true, false}
 use native.Mathlib.Omega.{arith}
 use lib.ListN.{length}
 use lib.Dec.{leb, eqb}
 use borrow.Author.Tests.{le-leb, leb-true, eq-eqb, eqb-true}
-use Rattle.laws.specs.Choice.{pick, both}
+use Rattle.laws.specs.Choice.{pick, both, ifEq}
 use Rattle.laws.proofs.ChoiceLaws.{both-left, both-right, not-true, false-true, if-eq, else-eq}
 use Rattle.number.specs.BigEndian.{Num}
 use Rattle.job_input.specs.declared.Field.{Field}
 use Rattle.job_input.specs.declared.Found.{Found}
 use Rattle.job_input.specs.declared.Found.the-variants.{Whole, Broken}
+use Rattle.job_input.specs.declared.Places.{Places}
 use Rattle.job_input.specs.declared.Located.{Located}
 use Rattle.job_input.specs.declared.Located.the-variants.{At, Damaged}
-use Rattle.job_input.specs.Job.{mark, size, within, stands, fieldOf, fieldAt, after}
+use Rattle.job_input.specs.Job.{mark, size, within, stands, fieldOf, fieldAt, after, locatedLists, located, jobAt, parse, jobOf, Payload, Placed}
 
 -- ---- one record
 
@@ -63,9 +65,94 @@ module _ (m width most : ℕ) (xs : List ℕ) (at : ℕ) where
 
 module _ (found r : Found) (rest : Field → Located) (q : r ≡ found) where
   pub after-broken : r ≡ Broken → Damaged ≡ after found rest
+  unfolding after
   after-broken e = rw (← q, e)
 
   pub after-whole : (f : Field) {z : Located} → r ≡ Whole f → z ≡ rest f → z ≡ after found rest
+  unfolding after
   after-whole f e h = rw (← q, e) h
 
 pub ruleset steps = (after-broken, after-whole, if-eq, else-eq)
+
+-- ---- what a record that stands tells
+
+abbrev un-whole : Found → Field → Field
+un-whole (Whole f) d = f
+un-whole Broken d = d
+
+whole-broken : {f : Field} → Broken ≡ Whole f → ⊥
+whole-broken e = false-true (ap go e)
+  where
+    go : Found → Bool
+    go (Whole f) = true
+    go Broken = false
+
+at-damaged : {p : Places} → Damaged ≡ At p → ⊥
+at-damaged e = false-true (ap go e)
+  where
+    go : Located → Bool
+    go (At p) = true
+    go Damaged = false
+
+abbrev un-at : Located → Places → Places
+un-at (At p) d = p
+un-at Damaged d = d
+
+module _ (m width most : ℕ) (xs : List ℕ) (at : ℕ) (f : Field) where
+  pub field-stands : fieldAt m width most xs at ≡ Whole f → Stands m width most xs at
+  unfolding fieldAt
+  field-stands e = stands-facts m width most xs at (go (stands m width most xs at) refl)
+    where
+      go : (t : Bool) → stands m width most xs at ≡ t → stands m width most xs at ≡ true
+      go true h = h
+      go false h = absurd (whole-broken (rw h at e))
+
+  pub field-is : fieldAt m width most xs at ≡ Whole f → fieldOf width xs at ≡ f
+  field-is e = ap (λ r. un-whole r f) (whole m width most xs at (field-stands e) ∙ e)
+
+  pub field-payload : fieldAt m width most xs at ≡ Whole f → Payload width most xs f
+  unfolding within
+  field-payload e =
+      let g = field-stands e in
+      rw (← field-is e) (record {
+        inside = omega (arith, g .room, mul-div-le (size xs at) width);
+        few = leb-true (size xs at / width) most (both-right (eqb (size xs at % width) 0) _ (g .entries));
+      })
+
+-- ---- what five records that stand tell
+
+after-at : {P : Type 0} {p : Places} (found : Found) (rest : Field → Located) → after found rest ≡ At p → ((f : Field) → found ≡ Whole f → rest f ≡ At p → P) → P
+unfolding after
+after-at (Whole f) rest e go = go f refl e
+after-at Broken rest e go = absurd (at-damaged e)
+
+end-at : {p q : Places} (a b : ℕ) → ifEq a b (At q) Damaged ≡ At p → (a ≡ b) × (q ≡ p)
+unfolding ifEq
+end-at {p} {q} a b e = go (eqb a b) refl
+  where
+    go : (t : Bool) → eqb a b ≡ t → (a ≡ b) × (q ≡ p)
+    go true h = (eqb-true a b h, ap (λ r. un-at r q) (rw h at e))
+    go false h = absurd (at-damaged (rw h at e))
+
+module _ (xs : List ℕ) (p : Places) where
+  lists-placed : (source pairs : Field) → Payload 1 32768 xs source → Payload 6 2048 xs pairs → locatedLists xs source pairs ≡ At p → Placed xs p
+  unfolding locatedLists
+  lists-placed source pairs a b e =
+      after-at _ _ e (λ kept e₁ h₁. after-at _ _ h₁ (λ map e₂ h₂. after-at _ _ h₂ (λ requested e₃ h₃.
+      subst (Placed xs) (end-at (requested .end) (length xs) h₃ .1) (record {
+        source = a;
+        pairs = b;
+        kept = field-payload _ _ _ _ _ _ e₁;
+        map = field-payload _ _ _ _ _ _ e₂;
+        requested = field-payload _ _ _ _ _ _ e₃;
+      }))))
+
+  pub placed : located xs ≡ At p → Placed xs p
+  unfolding located
+  placed e =
+      after-at _ _ e (λ source e₁ h₁. after-at _ _ h₁ (λ pairs e₂ h₂.
+      lists-placed source pairs (field-payload _ _ _ _ _ _ e₁) (field-payload _ _ _ _ _ _ e₂) h₂))
+
+  -- the places give the lists
+  pub job-at : located xs ≡ At p → jobOf (parse xs) ≡ jobAt xs p
+  job-at e = rw e
