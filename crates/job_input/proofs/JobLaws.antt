@@ -1,6 +1,6 @@
 -- Which bytes make a record, and what one record after the other leaves.
-use Prim.Native.Nat.{ℕ, _+_, _*_, _/_, _%_, _≤_}
-use native.Mathlib.Nat.{mul-div-le}
+use Prim.Native.Nat.{ℕ, _+_, _*_, _/_, _%_, _≤_, _<_}
+use native.Mathlib.Nat.{mul-div-le, div-add-mod, mul-le-mul-left}
 use mathlib.Core.Path.{_≡_, refl, sym, ap, subst, _∙_}
 use mathlib.Core.List.{List}
 use mathlib.Core.Bool.{Bool, true, false}
@@ -119,6 +119,14 @@ module _ (m width most : ℕ) (xs : List ℕ) (at : ℕ) (f : Field) where
         few = leb-true (size xs at / width) most (both-right (eqb (size xs at % width) 0) _ (g .entries));
       })
 
+  pub field-end : fieldAt m width most xs at ≡ Whole f → f .end ≤ at + 6 + width * most
+  unfolding within
+  field-end e =
+      let g = field-stands e in
+      let z = eqb-true (size xs at % width) 0 (both-left _ (leb (size xs at / width) most) (g .entries)) in
+      let l = leb-true (size xs at / width) most (both-right (eqb (size xs at % width) 0) _ (g .entries)) in
+      rw (← field-is e) (omega (arith, z, div-add-mod (size xs at) width, mul-le-mul-left width l))
+
 -- ---- what five records that stand tell
 
 after-at : {P : Type 0} {p : Places} (found : Found) (rest : Field → Located) → after found rest ≡ At p → ((f : Field) → found ≡ Whole f → rest f ≡ At p → P) → P
@@ -134,25 +142,60 @@ end-at {p} {q} a b e = go (eqb a b) refl
     go true h = (eqb-true a b h, ap (λ r. un-at r q) (rw h at e))
     go false h = absurd (at-damaged (rw h at e))
 
+-- each record stands behind the one before, and the last ends where the bytes do
+pub record Five (xs : List ℕ) (p : Places) : Type 0 where
+  pub source : fieldAt 0x5442 1 32768 xs 0 ≡ Whole (p .source)
+  pub pairs : fieldAt 0x5052 6 2048 xs (p .source .end) ≡ Whole (p .pairs)
+  pub kept : fieldAt 0x4B50 4 4096 xs (p .pairs .end) ≡ Whole (p .kept)
+  pub map : fieldAt 0x4D50 2 8192 xs (p .kept .end) ≡ Whole (p .map)
+  pub requested : fieldAt 0x5251 2 2048 xs (p .map .end) ≡ Whole (p .requested)
+  pub ends : p .requested .end ≡ length xs
+
 module _ (xs : List ℕ) (p : Places) where
-  lists-placed : (source pairs : Field) → Payload 1 32768 xs source → Payload 6 2048 xs pairs → locatedLists xs source pairs ≡ At p → Placed xs p
-  unfolding locatedLists
-  lists-placed source pairs a b e =
-      after-at _ _ e (λ kept e₁ h₁. after-at _ _ h₁ (λ map e₂ h₂. after-at _ _ h₂ (λ requested e₃ h₃.
-      subst (Placed xs) (end-at (requested .end) (length xs) h₃ .1) (record {
-        source = a;
-        pairs = b;
-        kept = field-payload _ _ _ _ _ _ e₁;
-        map = field-payload _ _ _ _ _ _ e₂;
-        requested = field-payload _ _ _ _ _ _ e₃;
-      }))))
+  pub five : located xs ≡ At p → Five xs p
+  unfolding located locatedLists
+  five e =
+      after-at _ _ e (λ source e₁ h₁. after-at _ _ h₁ (λ pairs e₂ h₂. after-at _ _ h₂ (λ kept e₃ h₃. after-at _ _ h₃ (λ map e₄ h₄. after-at _ _ h₄ (λ requested e₅ h₅.
+      let t = end-at (requested .end) (length xs) h₅ in
+      subst (Five xs) (t .1) (record { source = e₁; pairs = e₂; kept = e₃; map = e₄; requested = e₅; ends = t .0 }))))))
+
+  pub five-located : Five xs p → located xs ≡ At p
+  unfolding located locatedLists after
+  five-located g = rw (g .source, g .pairs, g .kept, g .map, g .requested) (sym (if-eq (p .requested .end) (length xs) (At p) Damaged (g .ends) refl))
 
   pub placed : located xs ≡ At p → Placed xs p
-  unfolding located
   placed e =
-      after-at _ _ e (λ source e₁ h₁. after-at _ _ h₁ (λ pairs e₂ h₂.
-      lists-placed source pairs (field-payload _ _ _ _ _ _ e₁) (field-payload _ _ _ _ _ _ e₂) h₂))
+      let g = five e in
+      record {
+        source = field-payload _ _ _ _ _ _ (g .source);
+        pairs = field-payload _ _ _ _ _ _ (g .pairs);
+        kept = field-payload _ _ _ _ _ _ (g .kept);
+        map = field-payload _ _ _ _ _ _ (g .map);
+        requested = field-payload _ _ _ _ _ _ (g .requested);
+      }
+
+  -- no job is longer than five heads and five full payloads
+  longest : located xs ≡ At p → length xs ≤ 81950
+  longest e =
+      let g = five e in
+      omega (
+        arith,
+        g .ends,
+        field-end _ _ _ _ _ _ (g .source),
+        field-end _ _ _ _ _ _ (g .pairs),
+        field-end _ _ _ _ _ _ (g .kept),
+        field-end _ _ _ _ _ _ (g .map),
+        field-end _ _ _ _ _ _ (g .requested),
+      )
 
   -- the places give the lists
   pub job-at : located xs ≡ At p → jobOf (parse xs) ≡ jobAt xs p
   job-at e = rw e
+
+-- so of a longer input it is enough to read one byte more than that
+pub long-damaged : (xs : List ℕ) → 81950 < length xs → located xs ≡ Damaged
+long-damaged xs h = go (located xs) refl
+  where
+    go : (r : Located) → located xs ≡ r → located xs ≡ Damaged
+    go (At p) e = absurd (omega (arith, h, longest xs p e))
+    go Damaged e = e
