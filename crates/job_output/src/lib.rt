@@ -1,7 +1,6 @@
 // What the program writes: a few bytes of its own, then bytes of the work buffer.
 ghost use mathlib.Core.Path.{_≡_};
 ghost use mathlib.Core.List.{[], _∷_, _++_};
-ghost use Prim.Native.Nat.{_<_, _^_};
 ghost use Rattle.number.specs.BigEndian.{enc};
 ghost use Rattle.job_output.specs.Output.{acceptance, refusal};
 
@@ -28,14 +27,13 @@ fn head_of(a: u8, b: u8, n: u32, last: u8) -> [u8; 7]
 }
 
 // OK, and that many bytes of the work buffer.
-pub fn accept(length: usize) -> Reply
-    requires { ⌜ length < 256 ^ 4 ⌝ }
+pub fn accept(length: u32) -> Reply
     ensures { λ r. ⌜ r ≡ acceptance length ⌝ }
 {
     Reply {
-        head: head_of(b'O', b'K', length as u32, 0),
+        head: head_of(b'O', b'K', length, 0),
         headlength: 6,
-        length,
+        length: length as usize,
     }
 }
 

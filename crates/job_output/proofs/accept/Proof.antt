@@ -6,18 +6,14 @@ use Rattle.job_output.proofs.accept.Reads as reads
 use Rattle.job_output.proofs.accept.Lts as lts
 use Rattle.job_output.proofs.head_of.Reads as head-of-reads
 
--- src/lib.rt:36:35
-cast-head-of : tie.Need-cast-head-of
-cast-head-of c = search needs
-
--- src/lib.rt:36:15
+-- src/lib.rt:34:15
 head-of-requires : tie.Need-head-of-requires
 head-of-requires c κs = search needs
 
--- src/lib.rt:31:1
+-- src/lib.rt:30:1
 returns : tie.Need-returns
 unfolding acceptance
 returns c = rw (c .head-of .ensures)
 
 pub accept-spec : {M : Type 1} → statement M
-accept-spec = tie.close (tie.spec cast-head-of head-of-requires returns)
+accept-spec = tie.close (tie.spec head-of-requires returns)
