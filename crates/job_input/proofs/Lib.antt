@@ -1,2 +1,3 @@
 pub mod JobLaws
 pub mod ColumnLaws
+pub mod LentLaws

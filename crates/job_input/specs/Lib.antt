@@ -1,2 +1,3 @@
 pub mod Job
 pub mod Column
+pub mod Lent

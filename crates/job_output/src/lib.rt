@@ -11,8 +11,8 @@ pub struct Reply {
     pub length: usize,
 }
 
-// A mark, a number of four bytes, and one more byte.
-fn head_of(a: u8, b: u8, n: u32, last: u8) -> [u8; 7]
+// A mark, a number in four bytes, and one more byte.
+fn head_of(a: u8, b: u8, n: usize, last: u8) -> [u8; 7]
     ensures { λ r. ⌜ r ≡ a ∷ b ∷ (enc 4 n ++ (last ∷ [])) ⌝ }
 {
     [
@@ -27,13 +27,13 @@ fn head_of(a: u8, b: u8, n: u32, last: u8) -> [u8; 7]
 }
 
 // OK, and that many bytes of the work buffer.
-pub fn accept(length: u32) -> Reply
+pub fn accept(length: usize) -> Reply
     ensures { λ r. ⌜ r ≡ acceptance length ⌝ }
 {
     Reply {
         head: head_of(b'O', b'K', length, 0),
         headlength: 6,
-        length: length as usize,
+        length,
     }
 }
 
