@@ -1,5 +1,6 @@
 -- What the program writes (docs/01-rules.md, "The job program").
-use Prim.Native.Nat.{ℕ}
+use Prim.Native.Nat.{ℕ, _≤_}
+use mathlib.Core.Path.{_≡_}
 use mathlib.Core.List.{List, [], _∷_, _++_}
 use lib.ListN.{length, take}
 use Rattle.number.specs.BigEndian.{enc}
@@ -28,3 +29,13 @@ acceptance n = record { head = 0x4F ∷ 0x4B ∷ (enc 4 n ++ (0 ∷ [])); headle
 
 unfoldable pub refusal : ℕ → Reply
 refusal number = record { head = 0x4E ∷ 0x4F ∷ (enc 4 1 ++ (number ∷ [])); headlength = 7; length = 0 }
+
+-- ---- the parts that are written lie within what they are parts of
+
+-- the second follows from the first; both are asked where a part is lent
+abbrev pub Counts : ℕ → List ℕ → Type 0
+Counts n xs = (n ≤ length xs) × (n ≡ length (take n xs))
+
+pub record Parts (r : Reply) (buffer : List ℕ) : Type 0 where
+  pub head : Counts (r .headlength) (r .head)
+  pub bytes : Counts (r .length) buffer

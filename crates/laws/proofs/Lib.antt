@@ -21,3 +21,4 @@ pub mod LengthLaws
 pub mod FrontLaws
 pub mod AnyLaws
 pub mod BranchLaws
+pub mod TakeLaws
