@@ -1,13 +1,13 @@
 -- A column: how long it is, where its numbers stand, and the loop that copies it.
 use Prim.Native.Nat.{ℕ, zero, suc, _+_, _*_, _-_, _≤_, _<_}
-use mathlib.Core.Path.{_≡_, refl, sym, ap, _∙_}
-use mathlib.Core.List.{List, [], _∷_}
+use mathlib.Core.Path.{_≡_, refl, ap, _∙_}
+use mathlib.Core.List.{List}
 use native.Mathlib.Nat.{add-assoc, add-zero, sub-zero, mul-zero, mul-suc, mul-le-mul-left}
 use native.Mathlib.Numerals.{add-one}
 use native.Mathlib.Omega.{arith}
 use lib.ListN.{length, set, length-set}
 use lib.Seq.{sets}
-use Rattle.number.specs.BigEndian.{be, Num}
+use Rattle.number.specs.BigEndian.{Num}
 use Rattle.job_input.specs.Column.{column, Fits}
 
 pub length-column : (w stride : ℕ) (xs : List ℕ) (at n : ℕ) → length (column w stride xs at n) ≡ n

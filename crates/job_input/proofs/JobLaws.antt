@@ -8,7 +8,7 @@ use native.Mathlib.Omega.{arith}
 use lib.ListN.{length}
 use lib.Dec.{leb, eqb}
 use borrow.Author.Tests.{le-leb, leb-true, eq-eqb, eqb-true}
-use Rattle.laws.specs.Choice.{pick, both, ifEq}
+use Rattle.laws.specs.Choice.{ifEq}
 use Rattle.laws.proofs.ChoiceLaws.{both-left, both-right, not-true, false-true, if-eq, else-eq}
 use Rattle.number.specs.BigEndian.{Num}
 use Rattle.job_input.specs.declared.Field.{Field}
@@ -17,7 +17,8 @@ use Rattle.job_input.specs.declared.Found.the-variants.{Whole, Broken}
 use Rattle.job_input.specs.declared.Places.{Places}
 use Rattle.job_input.specs.declared.Located.{Located}
 use Rattle.job_input.specs.declared.Located.the-variants.{At, Damaged}
-use Rattle.job_input.specs.Job.{mark, size, within, stands, fieldOf, fieldAt, after, locatedLists, located, jobAt, parse, jobOf, Payload, Placed}
+use Rattle.job_input.specs.Job.{mark, size, within, stands, fieldOf, fieldAt, after, locatedLists, located, jobAt, parse, jobOf}
+use Rattle.job_input.specs.Room.{Payload, Placed}
 
 -- ---- one record
 

@@ -1,3 +1,3 @@
 pub mod JobLaws
 pub mod ColumnLaws
-pub mod LentLaws
+pub mod RoomLaws

@@ -1,5 +1,5 @@
 -- A job's bytes taken apart (docs/01-rules.md, "The job program"): five records in a fixed order and nothing behind them, or damaged bytes.
-use Prim.Native.Nat.{ℕ, _+_, _*_, _/_, _%_, _≤_}
+use Prim.Native.Nat.{ℕ, _+_, _/_, _%_}
 use mathlib.Core.List.{List, []}
 use mathlib.Core.Bool.{Bool}
 use lib.ListN.{length, take, drop}
@@ -103,16 +103,3 @@ parse xs = parsedAt xs (located xs)
 abbrev pub jobOf : Parsed → Job
 jobOf (read j) = j
 jobOf damaged = record { source = []; codes = []; glyphs = []; kept = []; map = []; requested = [] }
-
--- ---- what is known of a record that stands
-
-pub record Payload (width most : ℕ) (xs : List ℕ) (f : Field) : Type 0 where
-  pub inside : f .at + width * f .count ≤ length xs
-  pub few : f .count ≤ most
-
-pub record Placed (xs : List ℕ) (p : Places) : Type 0 where
-  pub source : Payload 1 32768 xs (p .source)
-  pub pairs : Payload 6 2048 xs (p .pairs)
-  pub kept : Payload 4 4096 xs (p .kept)
-  pub map : Payload 2 8192 xs (p .map)
-  pub requested : Payload 2 2048 xs (p .requested)

@@ -1,3 +1,3 @@
 pub mod Job
 pub mod Column
-pub mod Lent
+pub mod Room

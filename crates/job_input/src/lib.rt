@@ -3,7 +3,8 @@ ghost use mathlib.Core.Path.{_≡_};
 ghost use Prim.Native.Nat.{_≤_, _+_};
 ghost use lib.Seq.{sets};
 ghost use Rattle.job_input.specs.Column.{column, Fits};
-ghost use Rattle.job_input.specs.Job.{within, fieldAt, locatedLists, located, jobAt, parse, jobOf, Payload, Placed};
+ghost use Rattle.job_input.specs.Room.{Payload, Placed};
+ghost use Rattle.job_input.specs.Job.{within, fieldAt, locatedLists, located, jobAt, parse, jobOf};
 
 // The marks.
 const TB: u32 = 0x5442;

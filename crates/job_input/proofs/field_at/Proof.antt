@@ -1,75 +1,55 @@
+-- Each test that fails refutes the facts of a record that stands; where none does they all hold.
 use native.Mathlib.Omega.{arith}
 use Rattle.job_input.proofs.JobLaws.{broken, broken-entries, whole-entries}
 use borrow.Author.Needs.{needs}
 use Rattle.job_input.proofs.field_at.Statement.{statement}
 use Rattle.job_input.proofs.field_at.Tie as tie
-use Rattle.job_input.proofs.field_at.Reads as reads
-use Rattle.job_input.proofs.field_at.Lts as lts
-use Rattle.job_input.proofs.is_within.Reads as is-within-reads
-use Rattle.number.proofs.u16_at.Reads as u16-at-reads
-use Rattle.number.proofs.u32_at.Reads as u32-at-reads
 
--- src/lib.rt:48:9
 returns : tie.Need-returns
 returns c = broken _ _ _ _ _ (λ g. omega arith)
 
--- src/lib.rt:51:9
 returns-2 : tie.Need-returns-2
 returns-2 c = broken _ _ _ _ _ (λ g. omega arith)
 
--- src/lib.rt:53:8
 u16-at-requires : tie.Need-u16-at-requires
 u16-at-requires c κs = search needs
 
--- src/lib.rt:54:9
 returns-3 : tie.Need-returns-3
 returns-3 c = broken _ _ _ _ _ (λ g. omega arith)
 
--- src/lib.rt:56:34
 add-u32-at : tie.Need-add-u32-at
 add-u32-at c = search needs
 
--- src/lib.rt:56:16
 u32-at-requires : tie.Need-u32-at-requires
 u32-at-requires c κs = search needs
 
--- src/lib.rt:56:16
 cast-size : tie.Need-cast-size
 cast-size c = search needs
 
--- src/lib.rt:57:8
 sub-if4 : tie.Need-sub-if4
 sub-if4 c = search needs
 
--- src/lib.rt:58:9
 returns-4 : tie.Need-returns-4
 returns-4 c = broken _ _ _ _ _ (λ g. omega arith)
 
--- src/lib.rt:60:8
 is-within-requires : tie.Need-is-within-requires
 is-within-requires c κs = search needs
 
--- src/lib.rt:62:17
 add-t13 : tie.Need-add-t13
 add-t13 c = search needs
 
--- src/lib.rt:63:20
 div-t14 : tie.Need-div-t14
 div-t14 c = search needs
 
--- src/lib.rt:64:18
 add-t15 : tie.Need-add-t15
 add-t15 c = search needs
 
--- src/lib.rt:64:18
 add-t16 : tie.Need-add-t16
 add-t16 c = search needs
 
--- src/lib.rt:61:9
 returns-5 : tie.Need-returns-5
 returns-5 c = whole-entries _ _ _ _ _ _ _ (c .before .before .before .u32-at .ensures) (c .before .is-within .ensures) (omega arith) (omega arith) (omega arith) (c .if5 .taken)
 
--- src/lib.rt:42:1
 returns-6 : tie.Need-returns-6
 returns-6 c = search broken-entries
 

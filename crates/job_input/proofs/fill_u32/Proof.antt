@@ -1,12 +1,10 @@
+-- What is left to copy, copied from here, gives the whole column.
 use Rattle.job_input.proofs.ColumnLaws.{Filling, filling, fits-at}
 use native.Mathlib.Omega.{arith}
 use borrow.Author.Needs.{needs}
 use Prim.Native.Nat.{_-_}
 use Rattle.job_input.proofs.fill_u32.Statement.{statement}
 use Rattle.job_input.proofs.fill_u32.Tie as tie
-use Rattle.job_input.proofs.fill_u32.Reads as reads
-use Rattle.job_input.proofs.fill_u32.Lts as lts
-use Rattle.number.proofs.u32_at.Reads as u32-at-reads
 
 abbrev Inv-loop : tie.InvT-loop
 Inv-loop s at stride n out₀ i₀ out i = Filling 4 stride s at n out₀ out i
@@ -14,47 +12,36 @@ Inv-loop s at stride n out₀ i₀ out i = Filling 4 stride s at n out₀ out i
 abbrev μ-loop : tie.MeasureT-loop
 μ-loop s at stride n out₀ i₀ out i = n - i
 
--- src/lib.rt:138:5
 loop-holds : tie.Need-loop-holds Inv-loop μ-loop
 loop-holds c = search filling
 
--- src/lib.rt:139:41
 mul-u32-at : tie.Need-mul-u32-at Inv-loop μ-loop
 mul-u32-at c = omega (arith, fits-at _ _ _ _ _ _ _ (c .before .before .before .before .pre) (c .loop-test .taken))
 
--- src/lib.rt:139:36
 add-u32-at : tie.Need-add-u32-at Inv-loop μ-loop
 add-u32-at c = omega (arith, fits-at _ _ _ _ _ _ _ (c .before .before .before .before .pre) (c .loop-test .taken))
 
--- src/lib.rt:139:18
 u32-at-requires : tie.Need-u32-at-requires Inv-loop μ-loop
 u32-at-requires c κs = search (needs, filling)
 
--- src/lib.rt:139:9
 mul-out : tie.Need-mul-out Inv-loop μ-loop
 mul-out c = search needs
 
--- src/lib.rt:139:9
 slice-write-out : tie.Need-slice-write-out Inv-loop μ-loop
 slice-write-out c = search needs
 
--- src/lib.rt:140:9
 add-i : tie.Need-add-i Inv-loop μ-loop
 add-i c = search needs
 
--- src/lib.rt:138:5
 loop-less : tie.Need-loop-less Inv-loop μ-loop
 loop-less c = search needs
 
--- src/lib.rt:138:5
 loop-again : tie.Need-loop-again Inv-loop μ-loop
 loop-again c = search filling
 
--- src/lib.rt:133:1
 same-length : tie.Need-same-length Inv-loop μ-loop
 same-length c = search needs
 
--- src/lib.rt:133:1
 returns : tie.Need-returns Inv-loop μ-loop
 returns c = search filling
 

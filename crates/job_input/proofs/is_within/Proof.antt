@@ -1,25 +1,20 @@
+-- The two tests are the definition's.
 use Rattle.laws.proofs.ChoiceLaws.{tests}
 use Rattle.job_input.specs.Job.{within}
 use borrow.Author.Needs.{needs}
 use Rattle.job_input.proofs.is_within.Statement.{statement}
 use Rattle.job_input.proofs.is_within.Tie as tie
-use Rattle.job_input.proofs.is_within.Reads as reads
-use Rattle.job_input.proofs.is_within.Lts as lts
 
--- src/lib.rt:36:8
 rem-if1 : tie.Need-rem-if1
 rem-if1 c = search needs
 
--- src/lib.rt:37:9
 returns : tie.Need-returns
 unfolding within
 returns c = search tests
 
--- src/lib.rt:39:5
 div-result : tie.Need-div-result
 div-result c = search needs
 
--- src/lib.rt:32:1
 returns-2 : tie.Need-returns-2
 unfolding within
 returns-2 c = search tests

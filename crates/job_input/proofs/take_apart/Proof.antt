@@ -1,41 +1,30 @@
+-- Records that stand have their payloads inside the bytes and the limits, so each column is copied whole.
 use Rattle.job_input.proofs.JobLaws.{placed}
 use mathlib.Core.Path.{sym, _∙_}
 use borrow.Author.Needs.{needs}
 use Rattle.job_input.proofs.take_apart.Statement.{statement}
 use Rattle.job_input.proofs.take_apart.Tie as tie
-use Rattle.job_input.proofs.take_apart.Reads as reads
-use Rattle.job_input.proofs.take_apart.Lts as lts
-use Rattle.job_input.proofs.fill_lists.Reads as fill-lists-reads
-use Rattle.job_input.proofs.fill_pairs.Reads as fill-pairs-reads
-use Rattle.job_input.proofs.locate.Reads as locate-reads
 
--- src/lib.rt:201:9
 locate-requires : tie.Need-locate-requires
 locate-requires c κs = search needs
 
--- src/lib.rt:202:21
 enum-known-located : tie.Need-enum-known-located
 enum-known-located c = search needs
 
--- src/lib.rt:203:9
 enum-told : tie.Need-enum-told
 enum-told c = search needs
 
--- src/lib.rt:203:9
 returns : tie.Need-returns
 returns c =
     let d = sym (c .before .before .locate .ensures) ∙ c .enum-told .given .1 in
     (sym d, (rw d, (rw d, (rw d, (rw d, rw d)))))
 
--- src/lib.rt:206:5
 fill-pairs-requires : tie.Need-fill-pairs-requires
 fill-pairs-requires c κs = placed _ _ (sym (c .before .before .before .before .before .before .locate .ensures) ∙ c .before .before .before .before .located .given .1) .pairs
 
--- src/lib.rt:207:5
 fill-lists-requires : tie.Need-fill-lists-requires
 fill-lists-requires c κs = placed _ _ (sym (c .before .before .before .before .before .before .before .before .before .before .locate .ensures) ∙ c .before .before .before .before .before .before .before .before .located .given .1)
 
--- src/lib.rt:186:1
 returns-2 : tie.Need-returns-2
 returns-2 c =
     let d = sym (c .before .before .before .before .before .before .before .before .before .before .before .locate .ensures) ∙ c .before .before .before .before .before .before .before .before .before .located .given .1 in

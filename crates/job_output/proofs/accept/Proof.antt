@@ -1,16 +1,12 @@
+-- The head is the definition's.
 use Rattle.job_output.specs.Output.{acceptance}
 use borrow.Author.Needs.{needs}
 use Rattle.job_output.proofs.accept.Statement.{statement}
 use Rattle.job_output.proofs.accept.Tie as tie
-use Rattle.job_output.proofs.accept.Reads as reads
-use Rattle.job_output.proofs.accept.Lts as lts
-use Rattle.job_output.proofs.head_of.Reads as head-of-reads
 
--- src/lib.rt:34:15
 head-of-requires : tie.Need-head-of-requires
 head-of-requires c κs = search needs
 
--- src/lib.rt:30:1
 returns : tie.Need-returns
 unfolding acceptance
 returns c = rw (c .head-of .ensures)

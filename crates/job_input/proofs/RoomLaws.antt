@@ -10,7 +10,7 @@ use Rattle.job_input.specs.declared.Places.{Places}
 use Rattle.job_input.specs.declared.Located.the-variants.{At}
 use Rattle.job_input.specs.Column.{column}
 use Rattle.job_input.specs.Job.{Job, located, jobAt, parse, jobOf}
-use Rattle.job_input.specs.Lent.{Front, Lent}
+use Rattle.job_input.specs.Room.{Front, Lent}
 use Rattle.job_input.proofs.ColumnLaws.{length-column}
 use Rattle.job_input.proofs.JobLaws.{placed, job-at}
 
