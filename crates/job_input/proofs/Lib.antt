@@ -1,3 +1,4 @@
 pub mod JobLaws
 pub mod ColumnLaws
 pub mod RoomLaws
+pub mod CasesLaws

@@ -1,3 +1,4 @@
 pub mod Job
 pub mod Column
 pub mod Room
+pub mod Cases
