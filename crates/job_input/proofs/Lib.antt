@@ -2,3 +2,4 @@ pub mod JobLaws
 pub mod ColumnLaws
 pub mod RoomLaws
 pub mod CasesLaws
+pub mod BytesLaws

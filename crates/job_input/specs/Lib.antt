@@ -2,3 +2,4 @@ pub mod Job
 pub mod Column
 pub mod Room
 pub mod Cases
+pub mod Bytes
