@@ -3,7 +3,7 @@ use Prim.Native.Nat.{ℕ, zero, suc, _+_, _*_, _/_, _%_, _^_, _≤_, _<_}
 use mathlib.Core.Path.{_≡_, refl, sym, ap, ap₂, _∙_}
 use mathlib.Core.List.{List, [], _∷_, _++_}
 use mathlib.Core.Bool.{Bool, true}
-use native.Mathlib.Nat.{add-zero, add-assoc}
+use native.Mathlib.Nat.{add-zero, add-assoc, mul-div-right, mul-mod-right}
 use native.Mathlib.Numerals.{add-one}
 use native.Mathlib.Omega.{arith}
 use lib.ListN.{length, getD, take, drop, length-append, List·getD-append}
@@ -124,6 +124,22 @@ stands-take xs at (y ∷ ys) s =
     rw (drop-cons xs at 0 h)
     (ap₂ (λ (a : ℕ) (b : List ℕ). a ∷ b) (rw (add-zero at) at (s .same 0 (omega arith))) (stands-take xs (suc at) ys (rw (add-one at) at (right (y ∷ []) ys s))))
 
+-- ---- a record comes back: where it stands, and its list
+
+pub record Back (m width most : ℕ) (xs : List ℕ) (at : ℕ) (payload : List ℕ) (list back : List ℕ) : Type 0 where
+  pub field : fieldAt m width most xs at ≡ Whole (fieldIn width payload at)
+  pub is : back ≡ list
+
+framed-list : {xs : List ℕ} {at : ℕ} (m w most : ℕ) (vs : List ℕ) → m < 65536 → 0 < w → length vs ≤ most → w * length vs < 256 ^ 4
+    → Stands xs at (framed m (encs w vs)) → Fit w vs → Back m w most xs at (encs w vs) vs (column w w xs (at + 6) (length (encs w vs) / w))
+framed-list {xs} {at} m w most vs hm hw few room s f =
+    let l = length-encs w vs in
+    let n : length (encs w vs) / w ≡ length vs = rw l (mul-div-right (length vs) hw) in
+    record {
+      field = framed-field m (encs w vs) w most hm (rw l room) (rw l (mul-mod-right w (length vs))) (rw n few) s;
+      is = rw n (column-encs w vs xs (at + 6) (payload-stands m (encs w vs) s) f);
+    }
+
 -- ---- the job
 
 module _ (j : Job) (z : Sized j) where
@@ -141,43 +157,45 @@ module _ (j : Job) (z : Sized j) where
       let d = fieldIn 2 (encs 2 (j .map)) (c .end) in
       record { source = a; pairs = b; kept = c; map = d; requested = fieldIn 2 (encs 2 (j .requested)) (d .end) }
 
-  -- what stands behind each record
-  abbrev from-map : List ℕ
-  from-map = framed 0x4D50 (encs 2 (j .map)) ++ framed 0x5251 (encs 2 (j .requested))
+  -- each record, and what stands behind it
+  abbrev tb : List ℕ
+  tb = framed 0x5442 (j .source)
 
-  abbrev from-kept : List ℕ
-  from-kept = framed 0x4B50 (encs 4 (j .kept)) ++ from-map
+  abbrev pr : List ℕ
+  pr = framed 0x5052 pairsIn
 
-  abbrev from-pairs : List ℕ
-  from-pairs = framed 0x5052 pairsIn ++ from-kept
+  abbrev kp : List ℕ
+  kp = framed 0x4B50 (encs 4 (j .kept))
+
+  abbrev mp : List ℕ
+  mp = framed 0x4D50 (encs 2 (j .map))
+
+  abbrev rq : List ℕ
+  rq = framed 0x5251 (encs 2 (j .requested))
 
   at-source : Stands bytes 0 bytes
   at-source = record { inside = omega arith; same = λ k h. ap (λ i. getD bytes i 0) (omega arith) }
 
-  at-pairs : Stands bytes (places .source .end) from-pairs
-  at-pairs = next-stands 0x5442 (j .source) from-pairs at-source
+  at-pairs : Stands bytes (places .source .end) (pr ++ (kp ++ (mp ++ rq)))
+  at-pairs = next-stands 0x5442 (j .source) (pr ++ (kp ++ (mp ++ rq))) at-source
 
-  at-kept : Stands bytes (places .pairs .end) from-kept
-  at-kept = next-stands 0x5052 pairsIn from-kept at-pairs
+  at-kept : Stands bytes (places .pairs .end) (kp ++ (mp ++ rq))
+  at-kept = next-stands 0x5052 pairsIn (kp ++ (mp ++ rq)) at-pairs
 
-  at-map : Stands bytes (places .kept .end) from-map
-  at-map = next-stands 0x4B50 (encs 4 (j .kept)) from-map at-kept
+  at-map : Stands bytes (places .kept .end) (mp ++ rq)
+  at-map = next-stands 0x4B50 (encs 4 (j .kept)) (mp ++ rq) at-kept
 
-  at-requested : Stands bytes (places .map .end) (framed 0x5251 (encs 2 (j .requested)))
-  at-requested = next-stands 0x4D50 (encs 2 (j .map)) (framed 0x5251 (encs 2 (j .requested))) at-map
-
-  sizes : (length pairsIn ≡ 6 * length (j .codes)) × (length (encs 4 (j .kept)) ≡ 4 * length (j .kept)) × (length (encs 2 (j .map)) ≡ 2 * length (j .map))
-      × (length (encs 2 (j .requested)) ≡ 2 * length (j .requested))
-  sizes = (length-pairBytes (j .codes) (j .glyphs) (z .even), length-encs 4 (j .kept), length-encs 2 (j .map), length-encs 2 (j .requested))
+  at-requested : Stands bytes (places .map .end) rq
+  at-requested = next-stands 0x4D50 (encs 2 (j .map)) rq at-map
 
   ends : places .requested .end ≡ length bytes
   ends =
       omega (
         arith,
-        length-append (framed 0x5442 (j .source)) from-pairs,
-        length-append (framed 0x5052 pairsIn) from-kept,
-        length-append (framed 0x4B50 (encs 4 (j .kept))) from-map,
-        length-append (framed 0x4D50 (encs 2 (j .map))) (framed 0x5251 (encs 2 (j .requested))),
+        length-append tb (pr ++ (kp ++ (mp ++ rq))),
+        length-append pr (kp ++ (mp ++ rq)),
+        length-append kp (mp ++ rq),
+        length-append mp rq,
         length-framed 0x5442 (j .source),
         length-framed 0x5052 pairsIn,
         length-framed 0x4B50 (encs 4 (j .kept)),
@@ -185,51 +203,57 @@ module _ (j : Job) (z : Sized j) where
         length-framed 0x5251 (encs 2 (j .requested)),
       )
 
-  found : Five bytes places
-  found =
+  the-source : Back 0x5442 1 32768 bytes 0 (j .source) (j .source) (jobAt bytes places .source)
+  the-source =
+      let s = left tb (pr ++ (kp ++ (mp ++ rq))) at-source in
+      let n : length (j .source) / 1 ≡ length (j .source) = omega arith in
       record {
-        source = framed-field 0x5442 (j .source) 1 32768 (omega arith) (omega (arith, z .source)) (omega arith) (omega (arith, z .source)) (left (framed 0x5442 (j .source)) from-pairs at-source);
-        pairs = framed-field 0x5052 pairsIn 6 2048 (omega arith) (omega (arith, sizes .0, z .pairs)) (omega (arith, sizes .0)) (omega (arith, sizes .0, z .pairs)) (left (framed 0x5052 pairsIn) from-kept at-pairs);
-        kept = framed-field 0x4B50 (encs 4 (j .kept)) 4 4096 (omega arith) (omega (arith, sizes .1, z .kept)) (omega (arith, sizes .1)) (omega (arith, sizes .1, z .kept)) (left (framed 0x4B50 (encs 4 (j .kept))) from-map at-kept);
-        map = framed-field 0x4D50 (encs 2 (j .map)) 2 8192 (omega arith) (omega (arith, sizes .2, z .map)) (omega (arith, sizes .2)) (omega (arith, sizes .2, z .map)) (left (framed 0x4D50 (encs 2 (j .map))) (framed 0x5251 (encs 2 (j .requested))) at-map);
-        requested = framed-field 0x5251 (encs 2 (j .requested)) 2 2048 (omega arith) (omega (arith, sizes .3, z .requested)) (omega (arith, sizes .3)) (omega (arith, sizes .3, z .requested)) at-requested;
-        ends = ends;
+        field = framed-field 0x5442 (j .source) 1 32768 (omega arith) (omega (arith, z .source)) (omega arith) (omega (arith, z .source)) s;
+        is = rw n (stands-take bytes 6 (j .source) (payload-stands 0x5442 (j .source) s));
       }
 
-  the-source : jobAt bytes places .source ≡ j .source
-  the-source =
-      let n : length (j .source) / 1 ≡ length (j .source) = omega arith in
-      rw n (stands-take bytes 6 (j .source) (payload-stands 0x5442 (j .source) (left (framed 0x5442 (j .source)) from-pairs at-source)))
+  pairs-stand : Stands bytes (places .source .end) pr
+  pairs-stand = left pr (kp ++ (mp ++ rq)) at-pairs
 
-  the-codes : jobAt bytes places .codes ≡ j .codes
-  the-codes =
-      let n : length pairsIn / 6 ≡ length (j .codes) = omega (arith, sizes .0) in
-      rw n (column-codes bytes (j .codes) (j .glyphs) (places .pairs .at) (z .even) (payload-stands 0x5052 pairsIn (left (framed 0x5052 pairsIn) from-kept at-pairs)) (z .codes4))
+  pairs-length : length pairsIn ≡ 6 * length (j .codes)
+  pairs-length = length-pairBytes (j .codes) (j .glyphs) (z .even)
+
+  pairs-count : length pairsIn / 6 ≡ length (j .codes)
+  pairs-count = omega (arith, pairs-length)
+
+  the-codes : Back 0x5052 6 2048 bytes (places .source .end) pairsIn (j .codes) (jobAt bytes places .codes)
+  the-codes = record {
+    field = framed-field 0x5052 pairsIn 6 2048 (omega arith) (omega (arith, pairs-length, z .pairs)) (omega (arith, pairs-length)) (omega (arith, pairs-length, z .pairs)) pairs-stand;
+    is = rw pairs-count (column-codes bytes (j .codes) (j .glyphs) (places .pairs .at) (z .even) (payload-stands 0x5052 pairsIn pairs-stand) (z .codes4));
+  }
 
   the-glyphs : jobAt bytes places .glyphs ≡ j .glyphs
   the-glyphs =
-      let n : length pairsIn / 6 ≡ length (j .codes) = omega (arith, sizes .0) in
-      rw n (column-glyphs bytes (j .codes) (j .glyphs) (places .pairs .at) (z .even) (payload-stands 0x5052 pairsIn (left (framed 0x5052 pairsIn) from-kept at-pairs)) (z .glyphs2))
+      rw pairs-count (column-glyphs bytes (j .codes) (j .glyphs) (places .pairs .at) (z .even) (payload-stands 0x5052 pairsIn pairs-stand) (z .glyphs2))
 
-  the-kept : jobAt bytes places .kept ≡ j .kept
-  the-kept =
-      let n : length (encs 4 (j .kept)) / 4 ≡ length (j .kept) = omega (arith, sizes .1) in
-      rw n (column-encs 4 (j .kept) bytes (places .kept .at) (payload-stands 0x4B50 (encs 4 (j .kept)) (left (framed 0x4B50 (encs 4 (j .kept))) from-map at-kept)) (z .kept4))
+  the-kept : Back 0x4B50 4 4096 bytes (places .pairs .end) (encs 4 (j .kept)) (j .kept) (jobAt bytes places .kept)
+  the-kept = framed-list 0x4B50 4 4096 (j .kept) (omega arith) (omega arith) (z .kept) (omega (arith, z .kept)) (left kp (mp ++ rq) at-kept) (z .kept4)
 
-  the-map : jobAt bytes places .map ≡ j .map
-  the-map =
-      let n : length (encs 2 (j .map)) / 2 ≡ length (j .map) = omega (arith, sizes .2) in
-      rw n (column-encs 2 (j .map) bytes (places .map .at) (payload-stands 0x4D50 (encs 2 (j .map)) (left (framed 0x4D50 (encs 2 (j .map))) (framed 0x5251 (encs 2 (j .requested))) at-map)) (z .map2))
+  the-map : Back 0x4D50 2 8192 bytes (places .kept .end) (encs 2 (j .map)) (j .map) (jobAt bytes places .map)
+  the-map = framed-list 0x4D50 2 8192 (j .map) (omega arith) (omega arith) (z .map) (omega (arith, z .map)) (left mp rq at-map) (z .map2)
 
-  the-requested : jobAt bytes places .requested ≡ j .requested
-  the-requested =
-      let n : length (encs 2 (j .requested)) / 2 ≡ length (j .requested) = omega (arith, sizes .3) in
-      rw n (column-encs 2 (j .requested) bytes (places .requested .at) (payload-stands 0x5251 (encs 2 (j .requested)) at-requested) (z .requested2))
+  the-requested : Back 0x5251 2 2048 bytes (places .map .end) (encs 2 (j .requested)) (j .requested) (jobAt bytes places .requested)
+  the-requested = framed-list 0x5251 2 2048 (j .requested) (omega arith) (omega arith) (z .requested) (omega (arith, z .requested)) at-requested (z .requested2)
+
+  found : Five bytes places
+  found = record {
+    source = the-source .field;
+    pairs = the-codes .field;
+    kept = the-kept .field;
+    map = the-map .field;
+    requested = the-requested .field;
+    ends = ends;
+  }
 
   pub parse-bytes : parse (jobBytes j) ≡ read j
   parse-bytes =
       ap (parsedAt bytes) (five-located bytes places found)
-      ∙ ap read (made the-source the-codes the-glyphs the-kept the-map the-requested)
+      ∙ ap read (made (the-source .is) (the-codes .is) the-glyphs (the-kept .is) (the-map .is) (the-requested .is))
     where
       made : {s c g k m r : List ℕ} → s ≡ j .source → c ≡ j .codes → g ≡ j .glyphs → k ≡ j .kept → m ≡ j .map → r ≡ j .requested
           → _≡_ {A = Job} (record { source = s; codes = c; glyphs = g; kept = k; map = m; requested = r }) j
