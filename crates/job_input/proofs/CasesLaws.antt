@@ -1,6 +1,6 @@
 -- The cases, computed.
 use mathlib.Core.Path.{_≡_, refl}
-use mathlib.Core.List.{List, map}
+use mathlib.Core.List.{map}
 use Rattle.laws.specs.Choice.{ifEq}
 use Rattle.number.specs.BigEndian.{be}
 use Rattle.job_input.specs.Column.{column}

@@ -3,3 +3,4 @@ pub mod ColumnLaws
 pub mod RoomLaws
 pub mod CasesLaws
 pub mod BytesLaws
+pub mod OnlyBytesLaws

@@ -1,7 +1,7 @@
 -- Jobs and what they are taken apart into: a small one, and the same with one thing wrong.
 use Prim.Native.Nat.{ℕ}
 use mathlib.Core.List.{List, [], _∷_, _++_}
-use Rattle.job_input.specs.Job.{Job, Parsed, read, damaged}
+use Rattle.job_input.specs.Job.{Parsed, read, damaged}
 
 abbrev tb : List ℕ
 tb = 0x54 ∷ 0x42 ∷ 0 ∷ 0 ∷ 0 ∷ 4 ∷ 0 ∷ 0 ∷ 0 ∷ 7 ∷ []
