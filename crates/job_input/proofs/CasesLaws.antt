@@ -1,0 +1,12 @@
+-- The cases, computed.
+use mathlib.Core.Path.{_≡_, refl}
+use mathlib.Core.List.{map}
+use Rattle.laws.specs.Choice.{ifEq}
+use Rattle.number.specs.BigEndian.{be}
+use Rattle.job_input.specs.Column.{column}
+use Rattle.job_input.specs.Job.{parse, within, stands, fieldAt, after, locatedLists, located}
+use Rattle.job_input.specs.Cases.{cases}
+
+pub cases-good : map (λ c. parse (c .bytes)) cases ≡ map (λ c. c .parsed) cases
+unfolding located locatedLists after fieldAt stands within ifEq be column
+cases-good = refl

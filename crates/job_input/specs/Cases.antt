@@ -1,0 +1,47 @@
+-- Jobs and what they are taken apart into: a small one, and the same with one thing wrong.
+use Prim.Native.Nat.{ℕ}
+use mathlib.Core.List.{List, [], _∷_, _++_}
+use Rattle.job_input.specs.Job.{Parsed, read, damaged}
+
+abbrev tb : List ℕ
+tb = 0x54 ∷ 0x42 ∷ 0 ∷ 0 ∷ 0 ∷ 4 ∷ 0 ∷ 0 ∷ 0 ∷ 7 ∷ []
+
+abbrev pr : List ℕ
+pr = 0x50 ∷ 0x52 ∷ 0 ∷ 0 ∷ 0 ∷ 12 ∷ 0 ∷ 0 ∷ 0 ∷ 0x41 ∷ 0 ∷ 1 ∷ 0 ∷ 1 ∷ 0 ∷ 0x41 ∷ 1 ∷ 2 ∷ []
+
+abbrev kp : List ℕ
+kp = 0x4B ∷ 0x50 ∷ 0 ∷ 0 ∷ 0 ∷ 4 ∷ 0 ∷ 0 ∷ 0xFE ∷ 0 ∷ []
+
+abbrev mp : List ℕ
+mp = 0x4D ∷ 0x50 ∷ 0 ∷ 0 ∷ 0 ∷ 4 ∷ 0xFF ∷ 0xFF ∷ 0 ∷ 1 ∷ []
+
+abbrev rq : List ℕ
+rq = 0x52 ∷ 0x51 ∷ 0 ∷ 0 ∷ 0 ∷ 0 ∷ []
+
+-- no entries, and a byte that is no entry
+abbrev noEntries : List ℕ
+noEntries = 0x4D ∷ 0x50 ∷ 0 ∷ 0 ∷ 0 ∷ 0 ∷ []
+
+abbrev halfEntry : List ℕ
+halfEntry = 0x4D ∷ 0x50 ∷ 0 ∷ 0 ∷ 0 ∷ 1 ∷ 0 ∷ []
+
+abbrev job : List ℕ → Parsed
+job entries = read (record { source = 0 ∷ 0 ∷ 0 ∷ 7 ∷ []; codes = 0x41 ∷ 0x10041 ∷ []; glyphs = 1 ∷ 258 ∷ []; kept = 0xFE00 ∷ []; map = entries; requested = [] })
+
+pub record Case : Type 0 where
+  pub bytes : List ℕ
+  pub parsed : Parsed
+
+abbrev case : List ℕ → Parsed → Case
+case xs p = record { bytes = xs; parsed = p }
+
+abbrev pub cases : List Case
+cases =
+    case (tb ++ (pr ++ (kp ++ (mp ++ rq)))) (job (65535 ∷ 1 ∷ []))
+    ∷ case (tb ++ (pr ++ (kp ++ (noEntries ++ rq)))) (job [])
+    ∷ case (tb ++ (pr ++ (kp ++ (halfEntry ++ rq)))) damaged
+    ∷ case (tb ++ (pr ++ (mp ++ (kp ++ rq)))) damaged
+    ∷ case (tb ++ (pr ++ (kp ++ (mp ++ (rq ++ (0 ∷ [])))))) damaged
+    ∷ case (tb ++ (pr ++ (kp ++ mp))) damaged
+    ∷ case [] damaged
+    ∷ []

@@ -1,0 +1,5 @@
+pub mod Job
+pub mod Column
+pub mod Room
+pub mod Cases
+pub mod Bytes
