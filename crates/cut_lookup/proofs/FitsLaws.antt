@@ -1,11 +1,10 @@
--- The numbers of the segments and of the glyph array have 16 bits where code points and glyphs do; and there is a segment.
-use Prim.Native.Nat.{ℕ, _≤_, _<_}
+-- The numbers of the segments and of the glyph array have 16 bits where code points and glyphs do.
+use Prim.Native.Nat.{ℕ, _<_}
 use native.Mathlib.Omega.{arith}
 use mathlib.Core.Path.{_≡_}
-use mathlib.Core.List.{List, [], _∷_, _++_, map}
+use mathlib.Core.List.{List, [], _∷_, map}
 use mathlib.Core.Bool.{Bool, true, false, not}
 use lib.Dec.{eqb}
-use lib.ListN.{length}
 use Rattle.laws.specs.Lists.{Pair}
 use Rattle.laws.specs.Linked.{Each}
 use Rattle.laws.proofs.ChoiceLaws.{by-pick}
@@ -73,14 +72,6 @@ segments-fit ps h =
     each-append SegmentFits ss (closing (not (eqb (lastEnd ss) 65535)))
     (each-map SegmentFits segmentOf (cuts ps) (each-of (λ (x : Cut). Fit x × DeltaFits x) (λ (x : Cut). SegmentFits (segmentOf x)) fit (cuts ps) (each-both Fit DeltaFits (cuts ps) (cuts-fit ps h) (cuts-delta ps))))
     (closing-fits (not (eqb (lastEnd ss) 65535)))
-
-some-closed : (ss : List Segment) → 1 ≤ length (ss ++ closing (not (eqb (lastEnd ss) 65535)))
-some-closed [] = omega arith
-some-closed (x ∷ ss) = omega arith
-
-pub segments-some : (ps : List Pair) → 1 ≤ length (segments ps)
-unfolding segments
-segments-some ps = some-closed (map segmentOf (cuts ps))
 
 -- ---- the glyph array
 

@@ -18,7 +18,7 @@ use Rattle.number.proofs.BigEndianLaws.{be-front, be-back}
 use Rattle.number.proofs.RowLaws.{length-encs, be-encs-fits}
 use Rattle.number.proofs.StandsLaws.{be-stands}
 use Rattle.format12.specs.declared.Group.{Group}
-use Rattle.format12.specs.Format12.{consecutive, group, groupOf, grouped, groups, fields, tableLength, header, table, format12}
+use Rattle.format12.specs.Format12.{consecutive, groupOf, grouped, groups, fields, tableLength, header, table, format12}
 use Rattle.format12.proofs.GroupsLaws.{last-joined}
 use Rattle.format12.proofs.WalkLaws.{length-fields}
 use Rattle.format12.proofs.TableLaws.{length-header, length-table}

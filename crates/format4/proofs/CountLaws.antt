@@ -18,21 +18,22 @@ use Rattle.ranges.specs.declared.RangeState.{RangeState}
 use Rattle.ranges.specs.declared.Absorbed.{Absorbed}
 use Rattle.ranges.specs.declared.Finished.{Finished}
 use Rattle.ranges.specs.Steps.{idle, step, finish, toList, closing, cutFrom, entries}
+use Rattle.ranges.specs.Cutting.{segments}
+use Rattle.ranges.proofs.CuttingLaws.{segments-some, length-array}
+use Rattle.ranges.proofs.WalkLaws.{walk-cuts}
 use Rattle.ranges.proofs.StepsLaws.{entries-append, sink-step, sink-end}
 use Rattle.format4.specs.declared.RangeCounter.{RangeCounter}
-use Rattle.format4.specs.Format4.{segmentsOf, format4}
+use Rattle.format4.specs.Format4.{format4}
 use Rattle.format4.specs.declared.Size.{Size}
 use Rattle.format4.specs.declared.Size.the-variants.{Empty, TooLong, Fits}
 use Rattle.format4.specs.Size.{Columns, Below, Adds, Counts, counter, counted, countOf, lengthOf, sizeOf}
-use Rattle.format4.proofs.CutLaws.{segments-some}
-use Rattle.format4.proofs.WalkLaws.{segments-cut}
-use Rattle.format4.proofs.Format4Laws.{length-arrayOf, length-format4}
+use Rattle.format4.proofs.Format4Laws.{length-format4}
 
 counted-append : (n : RangeCounter) (a b : List Segment) → counted n (a ++ b) ≡ counted (counted n a) b
 counted-append n a b = simp (length-append, entries-append, add-assoc)
 
 count-is : (ps : List Pair) → counted (counter 0 0) (cutFrom idle ps) ≡ countOf ps
-count-is ps = rw (segments-cut ps, zero-add (length (segmentsOf ps)), zero-add (entries (segmentsOf ps)), length-arrayOf ps)
+count-is ps = rw (← walk-cuts ps, zero-add (length (segments ps)), zero-add (entries (segments ps)), length-array ps)
 
 -- ---- the counter
 
@@ -145,7 +146,7 @@ fits-tells (p ∷ ps) n e = go (leb (lengthOf m) 65535) refl e
     go : (t : Bool) → leb (lengthOf m) 65535 ≡ t → pick t (Fits m) TooLong ≡ Fits n → Told (p ∷ ps) n
     go true q r =
         let z : n ≡ m = sym (ap counterOf r) in
-        record { is = z; short = rw z (leb-true (lengthOf m) 65535 q); some = rw z (segments-some (p ∷ ps) (omega arith)) }
+        record { is = z; short = rw z (leb-true (lengthOf m) 65535 q); some = rw z (segments-some (p ∷ ps)) }
     go false q r = absurd (false-true (ap fitting r))
 
 pub length-told : (language : ℕ) (ps : List Pair) (n : RangeCounter) → Told ps n → length (format4 language ps) ≡ lengthOf n

@@ -12,9 +12,10 @@ use Rattle.ranges.specs.declared.Segment.{Segment}
 use Rattle.ranges.specs.declared.Committed.{Committed}
 use Rattle.ranges.specs.declared.RangeState.{RangeState}
 use Rattle.ranges.specs.Steps.{commit, whole, earlier, theRun, toList, closing, entriesOf, entries}
-use Rattle.format4.specs.Format4.{points, segmentsOf}
+use Rattle.ranges.specs.Cutting.{segments}
+use Rattle.format4.specs.Format4.{points}
 use Rattle.format4.specs.Share.{Fed}
-use Rattle.format4.proofs.WalkLaws.{commit-cases, All, Walk, segments-walk}
+use Rattle.format4.proofs.WalkLaws.{commit-cases, Walk, segments-walk}
 
 -- k pairs are in a running range and not committed
 record Pending (k : ℕ) (s : RangeState) : Type 0 where
@@ -22,13 +23,6 @@ record Pending (k : ℕ) (s : RangeState) : Type 0 where
   low : s .start ≤ s .run
   high : s .run ≤ s .end
   all : s .end + 1 ≡ s .start + k
-
-abbrev Any : Pair → Type 0
-Any p = Unit {0}
-
-any : (ps : List Pair) → All Any ps
-any [] = tt
-any (p ∷ ps) = (tt, any ps)
 
 -- what holds of the closing segment with no pair, and with k more pairs where a segment of k points comes before, holds of a cut with its pairs
 module _ (P : ℕ → List Segment → Type 0) (close : (t : Bool) → P 0 (closing t))
@@ -43,19 +37,19 @@ module _ (P : ℕ → List Segment → Type 0) (close : (t : Bool) → P 0 (clos
       (before (theRun s) (s .end + 1 - s .run) m rest refl (omega (arith, h .high)) p)))
       (one 0)
 
-  sharing : Walk Any Pending P
+  sharing : Walk Pending P
   sharing = record {
     runs = λ k s h. h .runs;
-    begins = λ p _. record { runs = refl; low = omega arith; high = omega arith; all = omega arith };
-    grows = λ k s p _ e h. record { runs = h .runs; low = h .low; high = omega (arith, h .high); all = omega (arith, h .all) };
-    turns = λ k s p _ e h. record { runs = refl; low = omega (arith, h .low, h .high); high = omega arith; all = omega (arith, h .all) };
-    turns-new = λ k s p _ h. record { runs = refl; low = omega arith; high = omega arith; all = omega arith };
+    begins = λ p. record { runs = refl; low = omega arith; high = omega arith; all = omega arith };
+    grows = λ k s p e h. record { runs = h .runs; low = h .low; high = omega (arith, h .high); all = omega (arith, h .all) };
+    turns = λ k s p e h. record { runs = refl; low = omega (arith, h .low, h .high); high = omega arith; all = omega (arith, h .all) };
+    turns-new = λ k s p h. record { runs = refl; low = omega arith; high = omega arith; all = omega arith };
     commits = commit-shares;
     closes = close;
   }
 
-  pub segments-share : (ps : List Pair) → P (length ps) (segmentsOf ps)
-  segments-share ps = segments-walk sharing ps (any ps)
+  pub segments-share : (ps : List Pair) → P (length ps) (segments ps)
+  segments-share = segments-walk sharing
 
 -- ---- the glyphs
 
@@ -71,7 +65,7 @@ before-fed x k m rest e h f =
     let z : m ≡ k + m - points x = omega arith in
     (omega (arith, entries-points x), omega arith, subst (λ (n : ℕ). Fed n rest) z f)
 
-pub segments-fed : (ps : List Pair) → Fed (length ps) (segmentsOf ps)
+pub segments-fed : (ps : List Pair) → Fed (length ps) (segments ps)
 segments-fed = segments-share Fed close-fed before-fed
 
 pub entries-fed : (ss : List Segment) (k : ℕ) → Fed k ss → entries ss ≤ k
@@ -81,7 +75,7 @@ entries-fed (x ∷ xs) k f = omega (arith, f .0, entries-points x, entries-fed x
 -- ---- the segments
 
 -- each but the closing one has a pair
-pub segments-few : (ps : List Pair) → length (segmentsOf ps) ≤ length ps + 1
+pub segments-few : (ps : List Pair) → length (segments ps) ≤ length ps + 1
 segments-few = segments-share (λ k ss. length ss ≤ k + 1) few before
   where
     few : (t : Bool) → length (closing t) ≤ 0 + 1
@@ -90,6 +84,3 @@ segments-few = segments-share (λ k ss. length ss ≤ k + 1) few before
 
     before : (x : Segment) (k m : ℕ) (rest : List Segment) → points x ≡ k → 1 ≤ k → length rest ≤ m + 1 → length (x ∷ rest) ≤ k + m + 1
     before x k m rest e h l = omega arith
-
-pub segments-some : (ps : List Pair) → 1 ≤ length ps → 1 ≤ length (segmentsOf ps)
-segments-some = segments-share (λ k ss. 1 ≤ k → 1 ≤ length ss) (λ t h. absurd (omega arith)) (λ x k m rest e h f l. omega arith)

@@ -10,19 +10,9 @@ use Rattle.ranges.specs.declared.Segment.{Segment}
 use Rattle.ranges.specs.Steps.{entriesOf}
 use Rattle.ranges.specs.Cutting.{segments, glyphArray}
 
--- the segments that the pairs are cut into, the closing one with them
-unfoldable pub segmentsOf : List Pair → List Segment
-unfolding segments
-segmentsOf ps = segments ps
-
 -- how many code points a segment has
 abbrev pub points : Segment → ℕ
 points x = x .end + 1 - x .start
-
--- their glyph array
-unfoldable pub arrayOf : List Pair → List ℕ
-unfolding glyphArray
-arrayOf ps = glyphArray ps
 
 -- the range offsets, where `before` entries of the array stand before the first of these segments: how many bytes it is from the offset
 -- itself to the segment's first entry, over the offsets that follow and those entries; 0 for a segment with a delta
@@ -67,7 +57,7 @@ columns ss array = map endOf ss ++ (0 ∷ (map startOf ss ++ (map deltaOf ss ++ 
 abbrev pub numbers : ℕ → List Segment → List ℕ → List ℕ
 numbers language ss array = header language (length ss) (length array) ++ columns ss array
 
--- two bytes each
+-- two bytes each, for the segments that the pairs are cut into and their glyph array
 unfoldable pub format4 : ℕ → List Pair → List ℕ
-unfolding segmentsOf arrayOf
-format4 language ps = encs 2 (numbers language (segmentsOf ps) (arrayOf ps))
+unfolding segments glyphArray
+format4 language ps = encs 2 (numbers language (segments ps) (glyphArray ps))

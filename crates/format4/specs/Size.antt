@@ -9,10 +9,11 @@ use Rattle.laws.specs.Lists.{Pair}
 use Rattle.number.specs.Limits.{pairsMax, format4LengthMax}
 use Rattle.ranges.specs.declared.Segment.{Segment}
 use Rattle.ranges.specs.Steps.{entries}
+use Rattle.ranges.specs.Cutting.{segments, glyphArray}
 use Rattle.format4.specs.declared.RangeCounter.{RangeCounter}
 use Rattle.format4.specs.declared.Size.{Size}
 use Rattle.format4.specs.declared.Size.the-variants.{Empty, TooLong, Fits}
-use Rattle.format4.specs.Format4.{segmentsOf, arrayOf, lengthWith}
+use Rattle.format4.specs.Format4.{lengthWith}
 
 -- the slices are two columns of one list of pairs; format 4 maps only code points of 16 bits
 pub record Columns (cs gs : List ℕ) : Type 0 where
@@ -25,7 +26,7 @@ counter s g = record { segments = s; glyphs = g }
 
 -- as many segments as the pairs are cut into, and as many glyphs as their array has
 abbrev pub countOf : List Pair → RangeCounter
-countOf ps = counter (length (segmentsOf ps)) (length (arrayOf ps))
+countOf ps = counter (length (segments ps)) (length (glyphArray ps))
 
 abbrev pub lengthOf : RangeCounter → ℕ
 lengthOf n = lengthWith (n .segments) (n .glyphs)

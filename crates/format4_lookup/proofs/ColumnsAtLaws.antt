@@ -1,6 +1,6 @@
 -- The numbers of a written format 4 subtable, read back from its bytes column by column.
-use Prim.Native.Nat.{ℕ, zero, suc, _+_, _*_, _<_}
-use mathlib.Core.Path.{_≡_, refl, sym, ap, _∙_}
+use Prim.Native.Nat.{ℕ, suc, _+_, _*_, _<_}
+use mathlib.Core.Path.{_≡_, refl, ap, _∙_}
 use mathlib.Core.List.{List, [], _∷_, _++_, map}
 use native.Mathlib.Nat.{add-zero}
 use native.Mathlib.Omega.{arith}
@@ -16,25 +16,17 @@ use Rattle.number.specs.Row.{encs}
 use Rattle.number.proofs.RowLaws.{be-encs-fits}
 use Rattle.ranges.specs.declared.Segment.{Segment}
 use Rattle.ranges.specs.Steps.{entriesOf, entries}
-use Rattle.ranges.specs.Cutting as cutting
+use Rattle.ranges.specs.Cutting.{segments, glyphArray}
 use Rattle.source.specs.Fields.{endCode, startCode, idDelta, idRangeOffset, glyphIdArray}
-use Rattle.format4.specs.Format4.{segmentsOf, arrayOf, offsetsFrom, header, endOf, startOf, deltaOf, columns, numbers, format4}
+use Rattle.format4.specs.Format4.{offsetsFrom, header, endOf, startOf, deltaOf, numbers, format4}
 use Rattle.format4.proofs.Format4Laws.{length-offsets}
 use Rattle.cut_lookup.proofs.FitsLaws.{SegmentFits, Low}
 
 -- ---- the subtable's numbers are those of the cutting
 
-pub segments-are : (ps : List Pair) → segmentsOf ps ≡ cutting.segments ps
-unfolding segmentsOf cutting.segments
-segments-are ps = refl
-
-pub array-is : (ps : List Pair) → arrayOf ps ≡ cutting.glyphArray ps
-unfolding arrayOf cutting.glyphArray
-array-is ps = refl
-
-pub format4-numbers : (language : ℕ) (ps : List Pair) → format4 language ps ≡ encs 2 (numbers language (cutting.segments ps) (cutting.glyphArray ps))
+pub format4-numbers : (language : ℕ) (ps : List Pair) → format4 language ps ≡ encs 2 (numbers language (segments ps) (glyphArray ps))
 unfolding format4
-format4-numbers language ps = rw (array-is ps, segments-are ps)
+format4-numbers language ps = refl
 
 -- ---- a row of numbers
 

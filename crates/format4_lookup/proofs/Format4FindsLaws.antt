@@ -10,7 +10,7 @@ use lib.ListN.{length, getD}
 use lib.Seq.{sets}
 use Rattle.laws.specs.Choice.{pick}
 use Rattle.laws.specs.Lists.{Pair, pairs, Rising}
-use Rattle.laws.specs.Listed.{listed, listedGlyph}
+use Rattle.laws.specs.Listed.{listedGlyph}
 use Rattle.laws.proofs.ChoiceLaws.{by-leb, if-lt, else-lt}
 use Rattle.laws.proofs.EachLaws.{each-of}
 use Rattle.laws.proofs.ListedLaws.{listed-ap, listed-none, listed-nth, listed-absent}
@@ -29,7 +29,8 @@ use Rattle.cut_lookup.proofs.LookupLaws.{segments-find}
 use Rattle.format4_lookup.specs.Lookup.{Written, foundIn}
 use Rattle.format4_lookup.proofs.ColumnsAtLaws.{Held, format4-numbers, entries-at, columns-held}
 use Rattle.format4_lookup.proofs.ColumnsFindLaws.{columns-find}
-use Rattle.format4_lookup.proofs.Format4KindLaws.{length-is, format4-kind}
+use Rattle.format4.proofs.Format4Laws.{length-format4}
+use Rattle.format4_lookup.proofs.Format4KindLaws.{format4-kind}
 
 module _ (language : ℕ) (ps : List Pair) (l : Listed ps) (w : Written language ps) where
   abbrev T : List ℕ
@@ -41,7 +42,7 @@ module _ (language : ℕ) (ps : List Pair) (l : Listed ps) (w : Written language
   find-low : (c : ℕ) → c < 65536 → foundIn ps c ≡ find4 T 0 S (length T) c
   unfolding find4
   find-low c h =
-      let long = length-is language ps in
+      let long = length-format4 language ps in
       let short = w .short in
       let all = length-array ps in
       let low = array-fits ps (l .fits) in
@@ -79,7 +80,7 @@ module _ (language : ℕ) (ps : List Pair) (l : Listed ps) (w : Written language
 
   module _ {xs : List ℕ} {at : ℕ} (st : Stands xs at T) (c : ℕ) where
     pub format4-gives-stands : lookup4 xs at c ≡ foundIn ps c
-    format4-gives-stands = lookup4-stands st (omega (arith, length-is language ps)) (ap lengthOf (format4-kind language ps w)) c ∙ format4-gives c
+    format4-gives-stands = lookup4-stands st (omega (arith, length-format4 language ps)) (ap lengthOf (format4-kind language ps w)) c ∙ format4-gives c
 
     pub format4-finds-stands : glyphOf (lookup4 xs at c) ≡ listedGlyph ps c
     format4-finds-stands = ap glyphOf format4-gives-stands ∙ found-glyph c

@@ -9,6 +9,7 @@ use Rattle.laws.specs.Lists.{Pair}
 use Rattle.laws.proofs.StandsLaws.{Stands, stands-append, stands-sets}
 use Rattle.number.specs.BigEndian.{be}
 use Rattle.ranges.specs.Cutting.{segments, glyphArray}
+use Rattle.ranges.proofs.CuttingLaws.{segments-some}
 use Rattle.source.specs.declared.Kind.the-variants.{Format4}
 use Rattle.source.specs.Kind as source
 use Rattle.source.proofs.KindLaws.{gives4, Readable4}
@@ -19,9 +20,8 @@ use Rattle.format4.specs.declared.Size.the-variants.{Fits}
 use Rattle.format4.specs.Size.{sizeOf}
 use Rattle.format4.proofs.Format4Laws.{length-format4}
 use Rattle.format4.proofs.CountLaws.{fits-tells, length-told}
-use Rattle.cut_lookup.proofs.FitsLaws.{segments-some}
 use Rattle.format4_lookup.specs.Lookup.{Written}
-use Rattle.format4_lookup.proofs.ColumnsAtLaws.{segments-are, array-is, format4-numbers, number-at}
+use Rattle.format4_lookup.proofs.ColumnsAtLaws.{format4-numbers, number-at}
 
 module _ (language : ℕ) (ps : List Pair) where
   abbrev T : List ℕ
@@ -30,14 +30,11 @@ module _ (language : ℕ) (ps : List Pair) where
   abbrev S : ℕ
   S = length (segments ps)
 
-  pub length-is : length T ≡ 16 + 8 * S + 2 * length (glyphArray ps)
-  length-is = length-format4 language ps ∙ rw (array-is ps, segments-are ps)
-
   pub format4-readable : Written language ps → Readable4 T 0 language S (length T)
   unfolding header
   format4-readable w =
       let n = number-at language (segments ps) (glyphArray ps) in
-      let e = length-is in
+      let e = length-format4 language ps in
       let h = w .short in
       let four : be 2 T 0 ≡ 4 = rw (format4-numbers language ps) (n 0 0 4 refl refl (omega arith)) in
       let long : be 2 T 2 ≡ length T = rw (format4-numbers language ps) (n 2 1 (lengthWith S (length (glyphArray ps))) refl refl (omega arith)) ∙ sym e in
@@ -62,7 +59,7 @@ module _ (language : ℕ) (ps : List Pair) where
   -- wherever it stands
   module _ {xs : List ℕ} {at : ℕ} (st : Stands xs at T) (w : Written language ps) where
     pub format4-kind-stands : source.kindAt xs at ≡ Format4 language S (length T)
-    format4-kind-stands = kind-stands st (omega (arith, length-is)) (ap source.lengthOf (format4-kind w)) ∙ format4-kind w
+    format4-kind-stands = kind-stands st (omega (arith, length-format4 language ps)) (ap source.lengthOf (format4-kind w)) ∙ format4-kind w
 
   pub format4-kind-between : (front back : List ℕ) → Written language ps → source.kindAt (front ++ (T ++ back)) (length front) ≡ Format4 language S (length T)
   format4-kind-between front back w = format4-kind-stands (stands-append front T back) w

@@ -16,7 +16,6 @@ use Rattle.format4.specs.declared.Size.the-variants.{TooLong, Fits}
 use Rattle.format4.specs.Size.{sizeOf, countOf, lengthOf}
 use Rattle.format4.proofs.Format4Laws.{length-format4}
 use Rattle.format4_lookup.specs.Lone.{Point, Lone, alone, spaced}
-use Rattle.format4_lookup.proofs.Format4KindLaws.{length-is}
 
 commit-alone : (p : Pair) → toList (commit (begun (p .0) (p .1)) 8) ≡ alone p ∷ []
 unfolding commit
@@ -46,7 +45,7 @@ module _ (ps : List Pair) (h : Lone ps) where
   length-lone language =
       let s = ap length (segments-lone ps h) ∙ length-append (map alone ps) (closing true) in
       let a = length-array ps ∙ ap entries (segments-lone ps h) ∙ entries-lone ps h in
-      omega (arith, length-is language ps, length-map ps alone)
+      omega (arith, length-format4 language ps, length-map ps alone)
 
   pub lone-longest : (language : ℕ) → length ps ≡ 8188 → length (format4 language ps) ≡ 65528
   lone-longest language n = omega (arith, length-lone language)

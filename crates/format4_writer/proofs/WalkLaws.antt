@@ -14,10 +14,11 @@ use Rattle.ranges.specs.declared.Absorbed.{Absorbed}
 use Rattle.ranges.specs.declared.Finished.{Finished}
 use Rattle.ranges.specs.Steps.{idle, step, finish, toList, closing, cutFrom}
 use Rattle.ranges.proofs.StepsLaws.{entries-append, walk-step, walk-end}
-use Rattle.format4.specs.Format4.{points, segmentsOf}
+use Rattle.format4.specs.Format4.{points}
 use Rattle.format4.specs.Size.{Columns}
 use Rattle.format4.specs.Share.{Fed}
-use Rattle.format4.proofs.WalkLaws.{segments-cut}
+use Rattle.ranges.specs.Cutting.{segments}
+use Rattle.ranges.proofs.WalkLaws.{walk-cuts}
 use Rattle.format4_writer.specs.declared.RangeWriter.{RangeWriter}
 use Rattle.format4_writer.specs.Places.{partOf, nextOf, putOne, putAll, movedBy, Room, columnsAt, Apart}
 use Rattle.format4_writer.proofs.PlacesLaws.{put-columns}
@@ -85,18 +86,18 @@ left-next {gs} {o} {w} {l} {whole} {p} {v} a b r e f = record {
 -- i pairs are walked; what is left, written from here, gives all columns
 pub record Writing (cs gs o₀ : List ℕ) (w₀ : RangeWriter) (s : RangeState) (o : List ℕ) (w : RangeWriter) (i : ℕ) : Type 0 where
   pub within : i ≤ length cs
-  pub left : Left gs o w (cutFrom s (pairs (drop i cs) (drop i gs))) (length o₀) (columnsAt gs o₀ w₀ 0 (segmentsOf (pairs cs gs)))
+  pub left : Left gs o w (cutFrom s (pairs (drop i cs) (drop i gs))) (length o₀) (columnsAt gs o₀ w₀ 0 (segments (pairs cs gs)))
 
-pub writing-start : (cs gs o : List ℕ) (w : RangeWriter) (s : RangeState) → s ≡ idle → Apart w (length (segmentsOf (pairs cs gs))) 0
-    → Room w (segmentsOf (pairs cs gs)) (length gs) (length o) → Writing cs gs o w s o w 0
+pub writing-start : (cs gs o : List ℕ) (w : RangeWriter) (s : RangeState) → s ≡ idle → Apart w (length (segments (pairs cs gs))) 0
+    → Room w (segments (pairs cs gs)) (length gs) (length o) → Writing cs gs o w s o w 0
 writing-start cs gs o w s e r m = rw e (record {
   within = omega arith;
-  left = rw (segments-cut (pairs cs gs)) (record { room = m; long = refl; goes = put-columns gs (segmentsOf (pairs cs gs)) o w 0 r (m .fed) });
+  left = rw (← walk-cuts (pairs cs gs)) (record { room = m; long = refl; goes = put-columns gs (segments (pairs cs gs)) o w 0 r (m .fed) });
 })
 
 module _ (cs gs o₀ : List ℕ) (w₀ : RangeWriter) (s : RangeState) (o : List ℕ) (w : RangeWriter) (i : ℕ) (l : Writing cs gs o₀ w₀ s o w i) where
   abbrev whole : List ℕ
-  whole = columnsAt gs o₀ w₀ 0 (segmentsOf (pairs cs gs))
+  whole = columnsAt gs o₀ w₀ 0 (segments (pairs cs gs))
 
   module _ (a : Absorbed) (k : Columns cs gs) (h : i < length cs) (e : a ≡ step s (getD cs i 0) (getD gs i 0)) where
     turn : Left gs o w (toList (a .out) ++ cutFrom (a .state) (pairs (drop (i + 1) cs) (drop (i + 1) gs))) (length o₀) whole

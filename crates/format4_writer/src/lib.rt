@@ -12,7 +12,8 @@ ghost use Rattle.laws.specs.Lists.{pairs};
 ghost use Rattle.number.specs.Row.{encs};
 ghost use Rattle.ranges.specs.Steps.{toList, closing};
 ghost use Rattle.format4.specs.declared.Size.the-variants.{Fits};
-ghost use Rattle.format4.specs.Format4.{segmentsOf, floorLog2, format4};
+ghost use Rattle.ranges.specs.Cutting.{segments};
+ghost use Rattle.format4.specs.Format4.{floorLog2, format4};
 ghost use Rattle.format4.specs.Size.{Columns, lengthOf, sizeOf};
 ghost use Rattle.format4_writer.specs.Places.{Logs, offsetAt, nextOf, putThree, putGlyphs, putOne, putAll, movedBy, Small, Room, columnsAt, Apart, placesAt, headed, Space};
 
@@ -203,9 +204,9 @@ impl RangeWriter {
 // The columns and the glyph array.
 pub fn write_columns(out: &mut [u8], codes: &[u32], glyphs: &[u16], at: RangeWriter)
     requires { ⌜ Columns (now codes) (now glyphs) ⌝ }
-    requires { ⌜ Apart at (length (segmentsOf (pairs (now codes) (now glyphs)))) 0 ⌝ }
-    requires { ⌜ Room at (segmentsOf (pairs (now codes) (now glyphs))) (length (now glyphs)) (length (now out)) ⌝ }
-    ensures { λ _. ⌜ now (out .exit) ≡ columnsAt (now (glyphs .entry)) (now (out .entry)) at 0 (segmentsOf (pairs (now (codes .entry)) (now (glyphs .entry)))) ⌝ }
+    requires { ⌜ Apart at (length (segments (pairs (now codes) (now glyphs)))) 0 ⌝ }
+    requires { ⌜ Room at (segments (pairs (now codes) (now glyphs))) (length (now glyphs)) (length (now out)) ⌝ }
+    ensures { λ _. ⌜ now (out .exit) ≡ columnsAt (now (glyphs .entry)) (now (out .entry)) at 0 (segments (pairs (now (codes .entry)) (now (glyphs .entry)))) ⌝ }
 {
     let mut state = RangeState::new();
     let mut w = at;

@@ -4,14 +4,13 @@ use mathlib.Core.Path.{_≡_, refl, ap}
 use mathlib.Core.List.{List, [], _∷_, map}
 use mathlib.Core.Bool.{Bool}
 use native.Mathlib.Omega.{arith}
-use lib.ListN.{length}
+use lib.ListN.{length, length-map as map-length}
 use Rattle.laws.specs.Lists.{pairs}
 use Rattle.laws.specs.Select.{each, select}
 use Rattle.laws.proofs.LastsLaws.{by-test}
 
 pub length-map : {A B : Type 0} (f : A → B) (xs : List A) → length (map f xs) ≡ length xs
-length-map f [] = refl
-length-map f (x ∷ xs) = ap suc (length-map f xs)
+length-map f xs = map-length xs f
 
 pub length-pairs : (cs gs : List ℕ) → length (pairs cs gs) ≤ length cs
 length-pairs [] gs = omega arith

@@ -1,5 +1,5 @@
 -- The cuts of a list of pairs are that list in parts, each of adjacent code points; and the glyph array can be found segment by segment.
-use Prim.Native.Nat.{ℕ, _+_, _-_}
+use Prim.Native.Nat.{ℕ, _+_, _-_, _≤_}
 use native.Mathlib.Omega.{arith}
 use native.Mathlib.Nat.{zero-add}
 use mathlib.Core.Path.{_≡_, refl, sym, _∙_, ap}
@@ -147,6 +147,15 @@ last-end (x ∷ y ∷ cs) h =
 pub segments-closed : (ps : List Pair) → segments ps ≡ map segmentOf (cuts ps) ++ closing (not (eqb (lastCode ps) 65535))
 unfolding segments
 segments-closed ps = rw (last-end (cuts ps) (cuts-adjacent ps), cuts-pairs ps)
+
+-- so there is a segment
+some-closed : (ss : List Segment) → 1 ≤ length (ss ++ closing (not (eqb (lastEnd ss) 65535)))
+some-closed [] = omega arith
+some-closed (x ∷ ss) = omega arith
+
+pub segments-some : (ps : List Pair) → 1 ≤ length (segments ps)
+unfolding segments
+segments-some ps = some-closed (map segmentOf (cuts ps))
 
 -- ---- the glyph array
 
