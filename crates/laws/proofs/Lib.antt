@@ -29,3 +29,4 @@ pub mod LastsLaws
 pub mod SetsCommLaws
 pub mod SeekingLaws
 pub mod FlatLaws
+pub mod FirstBeforeLaws
