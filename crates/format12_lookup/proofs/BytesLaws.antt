@@ -6,11 +6,13 @@ use native.Mathlib.Nat.{not-suc-le-zero}
 use native.Mathlib.Omega.{arith}
 use lib.ListN.{length, getD, length-append}
 use Rattle.laws.specs.Lists.{Pair}
-use Rattle.laws.specs.Pieces.{concat}
+use Rattle.laws.specs.Pieces.{pieces, concat}
+use Rattle.laws.proofs.LengthLaws.{length-map}
 use Rattle.laws.proofs.PiecesLaws.{Joined, concat-pieces}
-use Rattle.laws.proofs.PartedLaws.{Parted, parted-none, parted-last, parted-more, pieces-parted}
+use Rattle.laws.proofs.PartedLaws.{Parted, parted-none, parted-last, parted-more, pieces-parted, length-pieces}
 use Rattle.number.specs.BigEndian.{be}
 use Rattle.number.specs.Columns.{encs}
+use Rattle.number.specs.Limits.{unicodeMax}
 use Rattle.number.proofs.BigEndianLaws.{be-front, be-back}
 use Rattle.number.proofs.ColumnsLaws.{length-encs, be-encs, be-between}
 use Rattle.format12.specs.declared.Group.{Group}
@@ -18,7 +20,7 @@ use Rattle.format12.specs.Format12.{consecutive, group, groupOf, grouped, group
 use Rattle.format12.proofs.GroupsLaws.{last-joined}
 use Rattle.format12.proofs.WalkLaws.{length-fields}
 use Rattle.format12.proofs.TableLaws.{length-header, length-table}
-use Rattle.format12_lookup.specs.Lookup.{Above, groupAt, HeaderAt}
+use Rattle.format12_lookup.specs.Lookup.{Above, above-none, above-more, groupAt, HeaderAt}
 use Rattle.format12_lookup.proofs.LookupLaws.{above-first, row-rest}
 
 -- ---- numbers that fit four bytes
@@ -51,6 +53,15 @@ rows-fit (parted-more {y} {ys} {ps} j d p) a = row-fit ((y ∷ ys) ++ concat ps)
 groups-fit : (ps : List Pair) → Above 0 ps → Fit (fields (groups ps))
 unfolding grouped
 groups-fit ps a = rows-fit {lo = 0} (pieces-parted consecutive ps) (rw (concat-pieces consecutive ps) a)
+
+-- no more groups than there are code points
+above-few : {lo : ℕ} {ps : List Pair} → Above lo ps → lo ≤ suc unicodeMax → lo + length ps ≤ suc unicodeMax
+above-few above-none h = omega arith
+above-few (above-more {p} a b c r) h = omega (arith, above-few r (omega arith))
+
+pub groups-few : (ps : List Pair) → Above 0 ps → length (groups ps) ≤ suc unicodeMax
+unfolding grouped
+groups-few ps a = omega (arith, length-map groupOf (pieces consecutive ps), length-pieces consecutive ps, above-few a (omega arith))
 
 -- ---- the k-th group
 
@@ -115,10 +126,11 @@ module _ (front back : List ℕ) (language : ℕ) (ps : List Pair) where
   pub format12-group : Above 0 ps → (k : ℕ) (d : Group) → k < length (groups ps) → groupAt (front ++ (format12 language ps ++ back)) (length front) k ≡ getD (groups ps) k d
   format12-group a = table-group front back 12 language (groups ps) (groups-fit ps a)
 
-  pub format12-header : language < 4294967296 → length (groups ps) ≤ 65535
+  pub format12-header : language < 4294967296 → Above 0 ps
       → HeaderAt (front ++ (format12 language ps ++ back)) (length front) 12 (tableLength (length (groups ps))) language (length (groups ps))
   unfolding table
-  format12-header l m =
+  format12-header l above =
+      let m = groups-few ps above in
       let n = length (groups ps) in
       let b = encs 4 (fields (groups ps)) in
       let t = format12 language ps in

@@ -1,0 +1,231 @@
+-- The rows of a plan: a record that made a table is retained, not covered, and had none to serve it; a served one is served by such a record of its own format.
+use Prim.Native.Nat.{ℕ, zero, suc, _<_, _≤_}
+use mathlib.Core.Path.{_≡_, refl, sym, ap, _∙_}
+use mathlib.Core.List.{List}
+use mathlib.Core.Bool.{Bool, true, false, not}
+use native.Mathlib.Omega.{arith}
+use lib.Dec.{ltb}
+use lib.ListN.{length, getD, replicate, length-set, length-replicate}
+use lib.Seq.{getD-set-same, getD-set-other}
+use borrow.Author.Tests.{ltb-true, ltb-false, eqb-true, eq-eqb}
+use Rattle.laws.specs.Choice.{pick, both}
+use Rattle.laws.specs.Search.{first}
+use Rattle.laws.proofs.ChoiceLaws.{by-pick, by-leb, both-left, both-right, false-true, not-true}
+use Rattle.laws.proofs.EitherLaws.{true-of-not}
+use Rattle.laws.proofs.SeekingLaws.{first-holds, first-none}
+use Rattle.number.specs.Limits.{recordsMax}
+use Rattle.source.specs.declared.Kind.{Kind}
+use Rattle.source.specs.declared.Kind.the-variants.{Format4, Format12, Format14, Unreadable}
+use Rattle.source.specs.Header.{recordCount}
+use Rattle.source.specs.Kind.{formatOf}
+use Rattle.records.specs.Records.{leadsTo, leadsToFormat, retained}
+use Rattle.listing.specs.Job.{Job, glyphCount}
+use Rattle.covering.specs.Covered.{covered}
+use Rattle.format4.specs.declared.Size.{Size}
+use Rattle.format4.specs.declared.Size.the-variants.{Empty as Empty4, TooLong as TooLong4, Fits}
+use Rattle.format4.specs.Size.{sizeOf as sizeOf4}
+use Rattle.format14.specs.declared.Outcome.{Outcome as Outcome14}
+use Rattle.format14.specs.declared.Outcome.the-variants.{Refused8, Empty as Empty14, Length}
+use Rattle.format14.specs.Format14.{outcome as outcome14}
+use Rattle.plan.specs.declared.Outcome.{Outcome}
+use Rattle.plan.specs.declared.Outcome.the-variants.{NotRetained, Skipped, Empty, TooLong, Covered, BadMapping, Served, Made}
+use Rattle.plan.specs.Plan.{listedOf, givenOf, by4, by14, freshAs, fresh, isMade, sizeOf, serves, outcomeOf, outcomes, plan}
+use Rattle.made.proofs.MadeLaws.{not-made}
+
+-- ---- the row of outcomes
+
+none-there : (n k : ℕ) → getD (replicate n NotRetained) k NotRetained ≡ NotRetained
+none-there zero k = refl
+none-there (suc n) zero = refl
+none-there (suc n) (suc k) = none-there n k
+
+module _ (j : Job) where
+  length-outcomes : (m : ℕ) → length (outcomes j m) ≡ recordsMax
+  unfolding outcomes
+  length-outcomes zero = length-replicate recordsMax NotRetained
+  length-outcomes (suc m) = rw length-set (length-outcomes m)
+
+  -- records from m on are not worked out yet
+  outcome-past : (m k : ℕ) → m ≤ k → getD (outcomes j m) k NotRetained ≡ NotRetained
+  unfolding outcomes
+  outcome-past zero k h = none-there recordsMax k
+  outcome-past (suc m) k h = getD-set-other (outcomes j m) m k (outcomeOf j (outcomes j m) m) NotRetained (λ e. omega arith) ∙ outcome-past m k (omega arith)
+
+  -- those before it keep what was worked out
+  outcome-at : (m k : ℕ) → k < m → m ≤ recordsMax → getD (outcomes j m) k NotRetained ≡ outcomeOf j (outcomes j k) k
+  unfolding outcomes
+  outcome-at zero k h l = absurd (omega arith)
+  outcome-at (suc m) k h l =
+      by-leb (getD (outcomes j (suc m)) k NotRetained ≡ outcomeOf j (outcomes j k) k) m k
+      (λ a.
+      let same : k ≡ m = omega arith in
+      rw same (getD-set-same (outcomes j m) m (outcomeOf j (outcomes j m) m) NotRetained (omega (arith, length-outcomes m))))
+      (λ a. getD-set-other (outcomes j m) m k (outcomeOf j (outcomes j m) m) NotRetained (λ e. omega arith) ∙ outcome-at m k a (omega arith))
+
+-- ---- by outcome
+
+module _ (j : Job) (os : List Outcome) (k : ℕ) where
+  -- the first record before k whose table would serve it; k if there is none
+  abbrev server : ℕ
+  server = first (serves (j .source) os k) k 0
+
+  abbrev keeps : Bool
+  keeps = retained (j .source) k
+
+  abbrev covers : Bool
+  covers = covered (j .source) (glyphCount j) (j .kept) k
+
+  by-outcome : (P : Outcome → Type 0) → (keeps ≡ false → P NotRetained) → (keeps ≡ true → covers ≡ true → P Covered)
+      → (keeps ≡ true → covers ≡ false → server < k → P (Served server)) → (keeps ≡ true → covers ≡ false → k ≤ server → P (fresh j k)) → P (outcomeOf j os k)
+  unfolding outcomeOf
+  by-outcome P a b c d =
+      by-pick P (not keeps) NotRetained (pick covers Covered (pick (ltb server k) (Served server) (fresh j k)))
+      (λ e. a (not-true keeps (λ q. false-true (rw q at e))))
+      (λ e. by-pick P covers Covered (pick (ltb server k) (Served server) (fresh j k))
+      (λ f. b (true-of-not keeps e) f)
+      (λ f. by-pick P (ltb server k) (Served server) (fresh j k)
+      (λ g. c (true-of-not keeps e) f (ltb-true server k g))
+      (λ g. d (true-of-not keeps e) f (ltb-false server k g))))
+
+-- ---- only the walk says that a record is served
+
+abbrev isServed : Outcome → Bool
+isServed NotRetained = false
+isServed Skipped = false
+isServed Empty = false
+isServed TooLong = false
+isServed Covered = false
+isServed BadMapping = false
+isServed (Served by) = true
+isServed (Made size) = false
+
+abbrev serverOf : Outcome → ℕ
+serverOf NotRetained = 0
+serverOf Skipped = 0
+serverOf Empty = 0
+serverOf TooLong = 0
+serverOf Covered = 0
+serverOf BadMapping = 0
+serverOf (Served by) = by
+serverOf (Made size) = 0
+
+not-served : (P : Type 0) (o : Outcome) (r : ℕ) → isServed o ≡ false → o ≡ Served r → P
+not-served P o r f e = absurd (false-true (sym f ∙ ap isServed e))
+
+fresh-unserved : (j : Job) (k : ℕ) → isServed (fresh j k) ≡ false
+unfolding fresh
+fresh-unserved j k = go (leadsTo (j .source) k)
+  where
+    size4 : (size : Size) → isServed (by4 size) ≡ false
+    size4 Empty4 = refl
+    size4 TooLong4 = refl
+    size4 (Fits c) = refl
+
+    size14 : (o : Outcome14) → isServed (by14 o) ≡ false
+    size14 Refused8 = refl
+    size14 Empty14 = refl
+    size14 (Length n) = refl
+
+    go : (kind : Kind) → isServed (freshAs kind j k) ≡ false
+    go (Format4 language s len) = size4 (sizeOf4 (listedOf j k))
+    go (Format12 language g len) = refl
+    go (Format14 r len) = size14 (outcome14 (givenOf j k len))
+    go Unreadable = refl
+
+made-size : (o : Outcome) → isMade o ≡ true → o ≡ Made (sizeOf o)
+made-size NotRetained e = absurd (false-true e)
+made-size Skipped e = absurd (false-true e)
+made-size Empty e = absurd (false-true e)
+made-size TooLong e = absurd (false-true e)
+made-size Covered e = absurd (false-true e)
+made-size BadMapping e = absurd (false-true e)
+made-size (Served by) e = absurd (false-true e)
+made-size (Made size) e = refl
+
+-- ---- in the plan
+
+-- record k made a table of n bytes: no record before it made one of its format
+pub record Making (j : Job) (k n : ℕ) : Type 0 where
+  pub inside : k < recordCount (j .source)
+  pub kept : retained (j .source) k ≡ true
+  pub uncovered : covered (j .source) (glyphCount j) (j .kept) k ≡ false
+  pub alone : (r size : ℕ) → r < k → getD (plan j) r NotRetained ≡ Made size → formatOf (leadsTo (j .source) r) ≡ formatOf (leadsTo (j .source) k) → ⊥
+  pub is : fresh j k ≡ Made n
+
+-- record k is written with the table that record r made
+pub record Serving (j : Job) (k r : ℕ) : Type 0 where
+  pub inside : k < recordCount (j .source)
+  pub kept : retained (j .source) k ≡ true
+  pub uncovered : covered (j .source) (glyphCount j) (j .kept) k ≡ false
+  pub earlier : r < k
+  pub size : ℕ
+  pub made : getD (plan j) r NotRetained ≡ Made size
+  pub same : formatOf (leadsTo (j .source) r) ≡ formatOf (leadsTo (j .source) k)
+
+module _ (j : Job) (few : recordCount (j .source) ≤ recordsMax) where
+  plan-at : (k : ℕ) → k < recordCount (j .source) → getD (plan j) k NotRetained ≡ outcomeOf j (outcomes j k) k
+  unfolding plan
+  plan-at k h = outcome-at j (recordCount (j .source)) k h few
+
+  pub plan-past : (k : ℕ) → recordCount (j .source) ≤ k → getD (plan j) k NotRetained ≡ NotRetained
+  unfolding plan
+  plan-past k h = outcome-past j (recordCount (j .source)) k h
+
+  -- a row under way holds what the plan holds
+  plan-before : (k r : ℕ) → k < recordCount (j .source) → r < k → getD (outcomes j k) r NotRetained ≡ getD (plan j) r NotRetained
+  plan-before k r h l = outcome-at j k r l (omega (arith, few)) ∙ sym (plan-at r (omega arith))
+
+  -- where none serves it, no record before it made a table of its format
+  unlike : (k : ℕ) → k < recordCount (j .source) → k ≤ server j (outcomes j k) k → (r size : ℕ) → r < k → getD (plan j) r NotRetained ≡ Made size
+      → formatOf (leadsTo (j .source) r) ≡ formatOf (leadsTo (j .source) k) → ⊥
+  unfolding serves
+  unlike k h c r size l m f =
+      let no = first-none (serves (j .source) (outcomes j k) k) k 0 (omega arith) r (omega arith) (omega arith) in
+      false-true (sym no ∙ rw (plan-before k r h l, m, eq-eqb (formatOf (leadsTo (j .source) r)) (formatOf (leadsTo (j .source) k)) f))
+
+  pub plan-made : (k n : ℕ) → getD (plan j) k NotRetained ≡ Made n → Making j k n
+  plan-made k n e =
+      by-leb (Making j k n) (recordCount (j .source)) k
+      (λ h. not-made (Making j k n) NotRetained n refl (sym (plan-past k h) ∙ e))
+      (λ h.
+      let os = outcomes j k in
+      by-outcome j os k (λ (o : Outcome). o ≡ Made n → Making j k n)
+      (λ a q. not-made (Making j k n) NotRetained n refl q)
+      (λ a b q. not-made (Making j k n) Covered n refl q)
+      (λ a b c q. not-made (Making j k n) (Served (server j os k)) n refl q)
+      (λ a b c q. record { inside = h; kept = a; uncovered = b; alone = unlike k h c; is = q })
+      (sym (plan-at k h) ∙ e))
+
+  serving : (k r : ℕ) → k < recordCount (j .source) → retained (j .source) k ≡ true → covered (j .source) (glyphCount j) (j .kept) k ≡ false → r < k
+      → serves (j .source) (outcomes j k) k r ≡ true → Serving j k r
+  unfolding serves
+  serving k r h a b l d =
+      let o = getD (plan j) r NotRetained in
+      let f = leadsToFormat (formatOf (leadsTo (j .source) k)) (j .source) r in
+      let both-are : both (isMade o) f ≡ true = rw (plan-before k r h l) at d in
+      record {
+        inside = h;
+        kept = a;
+        uncovered = b;
+        earlier = l;
+        size = sizeOf o;
+        made = made-size o (both-left (isMade o) f both-are);
+        same = eqb-true (formatOf (leadsTo (j .source) r)) (formatOf (leadsTo (j .source) k)) (both-right (isMade o) f both-are);
+      }
+
+  pub plan-served : (k r : ℕ) → getD (plan j) k NotRetained ≡ Served r → Serving j k r
+  plan-served k r e =
+      by-leb (Serving j k r) (recordCount (j .source)) k
+      (λ h. not-served (Serving j k r) NotRetained r refl (sym (plan-past k h) ∙ e))
+      (λ h.
+      let os = outcomes j k in
+      by-outcome j os k (λ (o : Outcome). o ≡ Served r → Serving j k r)
+      (λ a q. not-served (Serving j k r) NotRetained r refl q)
+      (λ a b q. not-served (Serving j k r) Covered r refl q)
+      (λ a b c q.
+      let same : server j os k ≡ r = ap serverOf q in
+      let l : r < k = omega (arith, same, c) in
+      let d = rw same at (first-holds (serves (j .source) os k) k 0 (omega (arith, c))) in
+      serving k r h a b l d)
+      (λ a b c q. not-served (Serving j k r) (fresh j k) r (fresh-unserved j k) q)
+      (sym (plan-at k h) ∙ e))
