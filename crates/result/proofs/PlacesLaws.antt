@@ -13,6 +13,7 @@ use Rattle.laws.proofs.LastsLaws.{by-test}
 use Rattle.laws.proofs.StandsLaws.{Stands, stands-append, stands-in}
 use Rattle.number.specs.BigEndian.{be, enc, Bytes}
 use Rattle.number.proofs.BigEndianLaws.{be-lt, be-front, be-back, length-enc, be-enc-fits}
+use Rattle.number.specs.Limits.{recordsMax}
 use Rattle.source.specs.Header.{version, recordCount, platformOf, encodingOf, offsetOf as offsetAt}
 use Rattle.source.proofs.HeaderLaws.{Accepted}
 use Rattle.source.proofs.StandsLaws.{be-stands}
@@ -24,13 +25,18 @@ use Rattle.plan.specs.declared.Outcome.the-variants.{NotRetained, Skipped, Empt
 use Rattle.plan.specs.Plan.{tableOf, isMade, sizeOf}
 use Rattle.result.specs.Result.{isWritten, makerOf, at, countFrom, sizesFrom, written, tablesStart, offsetOf, recordBytes, recordsFrom, tablesBelow, resultOf, resultLength}
 use Rattle.result.proofs.CountLaws.{Ith, count-few, count-one, count-find, sizes-split, sizes-snoc}
-use Rattle.result.proofs.OutcomesLaws.{Serving}
+
+-- record m, not after record k, made the table that record k is written with
+pub record Maker (xs : List ℕ) (os : List Outcome) (k m : ℕ) : Type 0 where
+  pub earlier : m ≤ k
+  pub maker : isMade (at os m) ≡ true
+  pub alike : formatOf (leadsTo xs m) ≡ formatOf (leadsTo xs k)
 
 -- a row of outcomes that says how long each table is and who made it, and a result that 32 bits can address
 pub record Sound (j : Job) (os : List Outcome) : Type 0 where
-  pub all : length os ≡ 64
+  pub past : (k : ℕ) → recordsMax ≤ k → at os k ≡ NotRetained
   pub made : (k n : ℕ) → at os k ≡ Made n → n ≡ length (tableOf j k)
-  pub served : (k r : ℕ) → at os k ≡ Served r → Serving (j .source) os k r
+  pub served : (k r : ℕ) → at os k ≡ Served r → Maker (j .source) os k r
   pub small : resultLength os < 4294967296
   pub bytes : Bytes (j .source)
 
@@ -79,7 +85,7 @@ not-made BadMapping e = refl
 not-made (Served r) e = refl
 not-made (Made n) e = absurd (false-true (sym e))
 
-made-written : (o : Outcome) → isMade o ≡ true → isWritten o ≡ true
+pub made-written : (o : Outcome) → isMade o ≡ true → isWritten o ≡ true
 made-written NotRetained e = e
 made-written Skipped e = e
 made-written Empty e = e
@@ -88,12 +94,6 @@ made-written Covered e = e
 made-written BadMapping e = e
 made-written (Served r) e = refl
 made-written (Made n) e = refl
-
--- record m made the table that record k is written with
-pub record Maker (xs : List ℕ) (os : List Outcome) (k m : ℕ) : Type 0 where
-  pub earlier : m ≤ k
-  pub maker : isMade (at os m) ≡ true
-  pub alike : formatOf (leadsTo xs m) ≡ formatOf (leadsTo xs k)
 
 -- record i of a result is record k of the source
 pub record Entry (j : Job) (os : List Outcome) (i k : ℕ) : Type 0 where
@@ -192,9 +192,7 @@ module _ (j : Job) (os : List Outcome) (s : Sound j os) where
   pub written-below : (k : ℕ) → isWritten (at os k) ≡ true → k < 64
   written-below k w =
       by-leb (k < 64) 64 k
-      (λ h.
-      let d : at os k ≡ NotRetained = List·getD-eq-default os NotRetained (rw (s .all) h) in
-      absurd (false-true (rw d at w)))
+      (λ h. absurd (false-true (rw (s .past k h) at w)))
       (λ h. h)
 
   pub table-stands : (k : ℕ) → isMade (at os k) ≡ true → Stands (resultOf j os) (offsetOf os k) (tableOf j k)
@@ -237,9 +235,7 @@ module _ (j : Job) (os : List Outcome) (s : Sound j os) where
       go TooLong q e = absurd (false-true e)
       go Covered q e = absurd (false-true e)
       go BadMapping q e = absurd (false-true e)
-      go (Served r) q e =
-          let v = s .served k r q in
-          record { earlier = omega (arith, v .earlier); maker = v .maker; alike = v .alike }
+      go (Served r) q e = s .served k r q
       go (Made n) q e = record { earlier = omega arith; maker = rw q refl; alike = refl }
 
   pub offset-small : (k : ℕ) → k < 64 → offsetOf os k < 4294967296
