@@ -1,2 +1,3 @@
 pub mod AnswersLaws
+pub mod SoundLaws
 pub mod CaseLaws

@@ -65,7 +65,7 @@ number-stands {xs} {place} w v st h = be-stands st w 0 place (omega arith) (rw (
 
 -- ---- outcomes
 
-made-is : (o : Outcome) → isMade o ≡ true → o ≡ Made (sizeOf o)
+pub made-is : (o : Outcome) → isMade o ≡ true → o ≡ Made (sizeOf o)
 made-is NotRetained e = absurd (false-true e)
 made-is Skipped e = absurd (false-true e)
 made-is Empty e = absurd (false-true e)
@@ -75,7 +75,7 @@ made-is BadMapping e = absurd (false-true e)
 made-is (Served r) e = absurd (false-true e)
 made-is (Made n) e = refl
 
-not-made : (o : Outcome) → isMade o ≡ false → sizeOf o ≡ 0
+pub not-made : (o : Outcome) → isMade o ≡ false → sizeOf o ≡ 0
 not-made NotRetained e = refl
 not-made Skipped e = refl
 not-made Empty e = refl
