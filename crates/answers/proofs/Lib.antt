@@ -1,3 +1,4 @@
 pub mod AnswersLaws
 pub mod SoundLaws
+pub mod JobLaws
 pub mod CaseLaws

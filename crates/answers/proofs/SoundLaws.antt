@@ -68,7 +68,7 @@ module _ (j : Job) (l : Lent j) (few : recordCount (j .source) ≤ recordsMax) w
       (λ e. rw e (omega arith))
 
   -- no record before it made one of its format
-  first-maker : (k format : ℕ) → isMade (at (plan j) k) ≡ true → formatOf (leadsTo (j .source) k) ≡ format → first (makes j (plan j) format) 64 0 ≡ k
+  pub first-maker : (k format : ℕ) → isMade (at (plan j) k) ≡ true → formatOf (leadsTo (j .source) k) ≡ format → first (makes j (plan j) format) 64 0 ≡ k
   first-maker k format m f =
       let t = making k m in
       first-is (makes j (plan j) format) 64 k (omega (arith, t .inside))
