@@ -29,3 +29,4 @@ pub mod SetsCommLaws
 pub mod SeekingLaws
 pub mod FlatLaws
 pub mod TakeLaws
+pub mod FirstBeforeLaws

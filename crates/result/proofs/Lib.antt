@@ -1,0 +1,3 @@
+pub mod CountLaws
+pub mod PlacesLaws
+pub mod RefusalLaws

@@ -1,0 +1,54 @@
+-- The case by computation: the job is accepted, its result is the source's bytes, and both heads answer.
+use Prim.Native.Nat.{ℕ}
+use mathlib.Core.Path.{_≡_, refl, ap, _∙_}
+use mathlib.Core.List.{List, [], _∷_}
+use lib.ListN.{set, replicate}
+use Rattle.laws.specs.Choice.{ifLt, ifLe, ifEq}
+use Rattle.laws.specs.Search.{first, some}
+use Rattle.laws.specs.Select.{each, select, anyOf, flat}
+use Rattle.laws.specs.Pieces.{pieces, concat}
+use Rattle.number.specs.BigEndian.{be, enc}
+use Rattle.number.specs.Columns.{encs}
+use Rattle.number.specs.Row.{encs as encs′}
+use Rattle.source.specs.Header.{refused5}
+use Rattle.source.specs.Kind.{kindAt}
+use Rattle.records.specs.Records.{leadsTo, bmpPair, fullPair, retained, someRetained}
+use Rattle.marks.specs.Marks.{below, holds}
+use Rattle.checks.specs.Checks.{badSizes, falls, exceeds, lacks}
+use Rattle.mapped4.specs.Mapped4.{entry4, says4, lastSays, maps4}
+use Rattle.listing.specs.Listing.{maps, listed}
+use Rattle.covering.specs.Covered.{covered, siblingCovers}
+use Rattle.ranges.specs.Cutting.{commitRun, cutRuns, cuts, segments, glyphArray, arrayFrom}
+use Rattle.format4.specs.Format4.{segmentsOf, arrayOf, offsetsFrom, logFrom, floorLog2, header, format4}
+use Rattle.format4.specs.Size.{sizeOf}
+use Rattle.plan.specs.declared.Outcome.the-variants.{NotRetained, Made}
+use Rattle.plan.specs.Plan.{tableOf, fresh, serves, outcomeOf, outcomes, plan, refused8, refused9}
+use Rattle.result.specs.Refusal.{refusalOf}
+use Rattle.result.specs.Result.{countFrom, sizesFrom, recordsFrom, tablesBelow, resultOf}
+use Rattle.lookup.specs.Lookup.{inArray, inSegment, find4, lookup4}
+use Rattle.heads.specs.declared.Answer.the-variants.{Glyph}
+use Rattle.heads.specs.Heads.{oldOf, newOf, byRecords, oldHead, newHead}
+use Rattle.answers.specs.Case.{bytes, job}
+
+plan-case : plan job ≡ set (replicate 64 NotRetained) 0 (Made 32)
+unfolding ifLt ifLe ifEq first some each select anyOf pieces concat be enc encs encs′ kindAt leadsTo bmpPair fullPair retained entry4 says4 lastSays maps4 maps listed covered siblingCovers commitRun cutRuns cuts segments glyphArray arrayFrom segmentsOf arrayOf offsetsFrom sizeOf fresh serves outcomeOf outcomes plan
+plan-case = refl
+
+pub accepted-case : refusalOf job ≡ 0
+unfolding ifLt ifLe ifEq first some anyOf be refused5 kindAt leadsTo bmpPair fullPair retained someRetained below holds badSizes falls exceeds lacks refused8 refused9 refusalOf
+accepted-case = rw plan-case
+
+written-case : resultOf job (set (replicate 64 NotRetained) 0 (Made 32)) ≡ bytes
+unfolding ifLt ifLe ifEq first some each select anyOf flat pieces concat be enc encs encs′ kindAt leadsTo entry4 says4 lastSays maps4 maps listed commitRun cutRuns cuts segments glyphArray arrayFrom segmentsOf arrayOf offsetsFrom logFrom floorLog2 header format4 tableOf countFrom sizesFrom recordsFrom tablesBelow resultOf
+written-case = refl
+
+pub result-case : resultOf job (plan job) ≡ bytes
+result-case = ap (resultOf job) plan-case ∙ written-case
+
+pub old-case : oldHead (resultOf job (plan job)) 0x41 ≡ Glyph 1
+unfolding ifLt ifLe ifEq first be refused5 kindAt inArray inSegment find4 lookup4 oldOf byRecords
+old-case = rw result-case
+
+pub new-case : newHead (resultOf job (plan job)) 0x41 ≡ Glyph 1
+unfolding ifLt ifLe ifEq first be refused5 kindAt inArray inSegment find4 lookup4 oldOf newOf byRecords
+new-case = rw result-case

@@ -1,0 +1,4 @@
+pub mod AnswersLaws
+pub mod SoundLaws
+pub mod JobLaws
+pub mod CaseLaws

@@ -1,0 +1,1 @@
+// No code: what both heads give of a result is what the job lists.

@@ -1,0 +1,266 @@
+-- Where the parts of a result stand: its header is accepted, its records are the written ones in source order, and each table is at its offset.
+use Prim.Native.Nat.{ℕ, zero, suc, _+_, _*_, _-_, _^_, _<_, _≤_}
+use mathlib.Core.Path.{_≡_, refl, sym, ap, _∙_}
+use mathlib.Core.List.{List, [], _∷_, _++_, append-assoc}
+use mathlib.Core.Logic.{⊎-elim}
+use mathlib.Core.Bool.{Bool, true, false}
+use native.Mathlib.Nat.{zero-add, add-zero, eq-or-lt-of-le}
+use native.Mathlib.Omega.{arith}
+use lib.Seq.{getD-append-add}
+use lib.ListN.{length, getD, length-append, List·getD-append, List·getD-eq-default}
+use Rattle.laws.proofs.ChoiceLaws.{by-leb, false-true}
+use Rattle.laws.proofs.LastsLaws.{by-test}
+use Rattle.laws.proofs.StandsLaws.{Stands, stands-append, stands-in}
+use Rattle.number.specs.BigEndian.{be, enc, Bytes}
+use Rattle.number.proofs.BigEndianLaws.{be-lt, be-front, be-back, length-enc, be-enc-fits}
+use Rattle.number.specs.Limits.{recordsMax}
+use Rattle.source.specs.Header.{version, recordCount, platformOf, encodingOf, offsetOf as offsetAt}
+use Rattle.source.proofs.HeaderLaws.{Accepted}
+use Rattle.source.proofs.StandsLaws.{be-stands}
+use Rattle.source.specs.Kind.{formatOf}
+use Rattle.records.specs.Records.{leadsTo}
+use Rattle.listing.specs.Job.{Job}
+use Rattle.plan.specs.declared.Outcome.{Outcome}
+use Rattle.plan.specs.declared.Outcome.the-variants.{NotRetained, Skipped, Empty, TooLong, Covered, BadMapping, Served, Made}
+use Rattle.plan.specs.Plan.{tableOf, isMade, sizeOf}
+use Rattle.result.specs.Result.{isWritten, makerOf, at, countFrom, sizesFrom, written, tablesStart, offsetOf, recordBytes, recordsFrom, tablesBelow, resultOf, resultLength}
+use Rattle.result.proofs.CountLaws.{Ith, count-few, count-one, count-find, sizes-split, sizes-snoc}
+
+-- record m, not after record k, made the table that record k is written with
+pub record Maker (xs : List ℕ) (os : List Outcome) (k m : ℕ) : Type 0 where
+  pub earlier : m ≤ k
+  pub maker : isMade (at os m) ≡ true
+  pub alike : formatOf (leadsTo xs m) ≡ formatOf (leadsTo xs k)
+
+-- a row of outcomes that says how long each table is and who made it, and a result that 32 bits can address
+pub record Sound (j : Job) (os : List Outcome) : Type 0 where
+  pub past : (k : ℕ) → recordsMax ≤ k → at os k ≡ NotRetained
+  pub made : (k n : ℕ) → at os k ≡ Made n → n ≡ length (tableOf j k)
+  pub served : (k r : ℕ) → at os k ≡ Served r → Maker (j .source) os k r
+  pub small : resultLength os < 4294967296
+  pub bytes : Bytes (j .source)
+
+-- ---- a list in a longer one
+
+behind : (front : List ℕ) {rest t : List ℕ} {i : ℕ} (place : ℕ) → Stands rest i t → place ≡ length front + i → Stands (front ++ rest) place t
+behind front {rest} {t} {i} place st e = record {
+  inside = rw (length-append front rest) (omega (arith, st .inside));
+  same = λ k h.
+      let p : place + k ≡ length front + (i + k) = omega arith in
+      rw p (getD-append-add front rest (i + k) 0 ∙ st .same k h);
+}
+
+ahead : (back : List ℕ) {xs t : List ℕ} {i : ℕ} → Stands xs i t → Stands (xs ++ back) i t
+ahead back {xs} {t} {i} st = record {
+  inside = rw (length-append xs back) (omega (arith, st .inside));
+  same = λ k h. List·getD-append xs back 0 (i + k) (omega (arith, st .inside)) ∙ st .same k h;
+}
+
+whole : (t : List ℕ) → Stands t 0 t
+whole t = record { inside = omega arith; same = λ k h. ap (λ (i : ℕ). getD t i 0) (zero-add k) }
+
+-- a number's bytes give it back
+number-stands : {xs : List ℕ} {place : ℕ} (w v : ℕ) → Stands xs place (enc w v) → v < 256 ^ w → be w xs place ≡ v
+number-stands {xs} {place} w v st h = be-stands st w 0 place (omega arith) (rw (length-enc w v) (omega arith)) ∙ be-enc-fits w v h
+
+-- ---- outcomes
+
+pub made-is : (o : Outcome) → isMade o ≡ true → o ≡ Made (sizeOf o)
+made-is NotRetained e = absurd (false-true e)
+made-is Skipped e = absurd (false-true e)
+made-is Empty e = absurd (false-true e)
+made-is TooLong e = absurd (false-true e)
+made-is Covered e = absurd (false-true e)
+made-is BadMapping e = absurd (false-true e)
+made-is (Served r) e = absurd (false-true e)
+made-is (Made n) e = refl
+
+pub not-made : (o : Outcome) → isMade o ≡ false → sizeOf o ≡ 0
+not-made NotRetained e = refl
+not-made Skipped e = refl
+not-made Empty e = refl
+not-made TooLong e = refl
+not-made Covered e = refl
+not-made BadMapping e = refl
+not-made (Served r) e = refl
+not-made (Made n) e = absurd (false-true (sym e))
+
+pub made-written : (o : Outcome) → isMade o ≡ true → isWritten o ≡ true
+made-written NotRetained e = e
+made-written Skipped e = e
+made-written Empty e = e
+made-written TooLong e = e
+made-written Covered e = e
+made-written BadMapping e = e
+made-written (Served r) e = refl
+made-written (Made n) e = refl
+
+-- record i of a result is record k of the source
+pub record Entry (j : Job) (os : List Outcome) (i k : ℕ) : Type 0 where
+  pub platform : platformOf (resultOf j os) i ≡ platformOf (j .source) k
+  pub encoding : encodingOf (resultOf j os) i ≡ encodingOf (j .source) k
+  pub offset : offsetAt (resultOf j os) i ≡ offsetOf os (makerOf (at os k) k)
+
+module _ (j : Job) (os : List Outcome) (s : Sound j os) where
+  size-made : (k : ℕ) → isMade (at os k) ≡ true → sizeOf (at os k) ≡ length (tableOf j k)
+  size-made k e = s .made k (sizeOf (at os k)) (made-is (at os k) e)
+
+  -- ---- lengths
+
+  length-record : (k : ℕ) → length (recordBytes j os k) ≡ 8
+  length-record k =
+      rw (length-append, length-append, length-enc 2 (platformOf (j .source) k), length-enc 2 (encodingOf (j .source) k), length-enc 4 (offsetOf os (makerOf (at os k) k)))
+
+  length-records : (n k : ℕ) → length (recordsFrom j os n k) ≡ 8 * countFrom os n k
+  unfolding recordsFrom countFrom
+  length-records zero k = refl
+  length-records (suc n) k =
+      let r = length-records n (k + 1) in
+      by-test (length (recordsFrom j os (suc n) k) ≡ 8 * countFrom os (suc n) k) (isWritten (at os k))
+      (λ e. rw (e, length-append (recordBytes j os k) (recordsFrom j os n (k + 1)), length-record k, r) (omega arith))
+      (λ e. rw e r)
+
+  length-tables : (n : ℕ) → length (tablesBelow j os n) ≡ sizesFrom os n 0
+  unfolding tablesBelow sizesFrom
+  length-tables zero = refl
+  length-tables (suc n) =
+      let r = length-tables n in
+      let z = zero-add n in
+      by-test (length (tablesBelow j os (suc n)) ≡ sizesFrom os (suc n) 0) (isMade (at os n))
+      (λ e. rw (e, sizes-snoc os n 0, z, length-append (tableOf j n) (tablesBelow j os n), r, size-made n e) (omega arith))
+      (λ e. rw (e, sizes-snoc os n 0, z, r, not-made (at os n) e) (omega arith))
+
+  pub length-result : length (resultOf j os) ≡ resultLength os
+  unfolding resultOf
+  length-result =
+      rw (
+        length-append (enc 2 0) (enc 2 (written os) ++ (recordsFrom j os 64 0 ++ tablesBelow j os 64)),
+        length-append (enc 2 (written os)) (recordsFrom j os 64 0 ++ tablesBelow j os 64),
+        length-append (recordsFrom j os 64 0) (tablesBelow j os 64),
+        length-enc 2 0,
+        length-enc 2 (written os),
+        length-records 64 0,
+        length-tables 64,
+      ) (omega arith)
+
+  -- ---- tables
+
+  tables-stand : (n k : ℕ) → k < n → isMade (at os k) ≡ true → Stands (tablesBelow j os n) (sizesFrom os (n - (k + 1)) (k + 1)) (tableOf j k)
+  unfolding tablesBelow sizesFrom
+  tables-stand zero k h m = absurd (omega arith)
+  tables-stand (suc n) k h m =
+      by-leb (Stands (tablesBelow j os (suc n)) (sizesFrom os (suc n - (k + 1)) (k + 1)) (tableOf j k)) n k
+      (λ b.
+      let e : n ≡ k = omega arith in
+      let z : suc k - (k + 1) ≡ 0 = omega arith in
+      rw (e, z, m) (stands-append [] (tableOf j k) (tablesBelow j os k)))
+      (λ b.
+      let z : suc n - (k + 1) ≡ suc (n - (k + 1)) = omega arith in
+      let y : k + 1 + (n - (k + 1)) ≡ n = omega arith in
+      let r = tables-stand n k b m in
+      by-test (Stands (tablesBelow j os (suc n)) (sizesFrom os (suc n - (k + 1)) (k + 1)) (tableOf j k)) (isMade (at os n))
+      (λ e.
+      let l = size-made n e in
+      rw (z, sizes-snoc os (n - (k + 1)) (k + 1), y, e) (behind (tableOf j n) (sizesFrom os (n - (k + 1)) (k + 1) + sizeOf (at os n)) r (omega arith)))
+      (λ e. rw (z, sizes-snoc os (n - (k + 1)) (k + 1), y, e, not-made (at os n) e, add-zero) r))
+
+  -- ---- records
+
+  records-stand : (n k m : ℕ) → m < n → isWritten (at os (k + m)) ≡ true → Stands (recordsFrom j os n k) (8 * countFrom os m k) (recordBytes j os (k + m))
+  unfolding recordsFrom countFrom
+  records-stand zero k m h w = absurd (omega arith)
+  records-stand (suc n) k zero h w =
+      let e : isWritten (at os k) ≡ true = rw (add-zero k) at w in
+      rw (add-zero k, e) (stands-append [] (recordBytes j os k) (recordsFrom j os n (k + 1)))
+  records-stand (suc n) k (suc m) h w =
+      let p : k + suc m ≡ k + 1 + m = omega arith in
+      let r = records-stand n (k + 1) m (omega arith) (rw p at w) in
+      let l = length-record k in
+      by-test (Stands (recordsFrom j os (suc n) k) (8 * countFrom os (suc m) k) (recordBytes j os (k + suc m))) (isWritten (at os k))
+      (λ e. rw (p, e) (behind (recordBytes j os k) (8 * suc (countFrom os m (k + 1))) r (omega arith)))
+      (λ e. rw (p, e) r)
+
+  -- ---- the whole
+
+  body-stands : {t : List ℕ} {i : ℕ} (place : ℕ) → Stands (recordsFrom j os 64 0 ++ tablesBelow j os 64) i t → place ≡ 4 + i → Stands (resultOf j os) place t
+  unfolding resultOf
+  body-stands {t} {i} place st e =
+      let a = length-enc 2 0 in
+      let b = length-enc 2 (written os) in
+      behind (enc 2 0) place (behind (enc 2 (written os)) (2 + i) st (omega arith)) (omega arith)
+
+  pub written-below : (k : ℕ) → isWritten (at os k) ≡ true → k < 64
+  written-below k w =
+      by-leb (k < 64) 64 k
+      (λ h. absurd (false-true (rw (s .past k h) at w)))
+      (λ h. h)
+
+  pub table-stands : (k : ℕ) → isMade (at os k) ≡ true → Stands (resultOf j os) (offsetOf os k) (tableOf j k)
+  table-stands k m =
+      let l = length-records 64 0 in
+      let st = tables-stand 64 k (written-below k (made-written (at os k) m)) m in
+      body-stands (offsetOf os k) (behind (recordsFrom j os 64 0) (8 * written os + sizesFrom os (64 - (k + 1)) (k + 1)) st (omega arith)) (omega arith)
+
+  pub record-stands : (k : ℕ) → isWritten (at os k) ≡ true → Stands (resultOf j os) (4 + 8 * countFrom os k 0) (recordBytes j os k)
+  record-stands k w =
+      let z = zero-add k in
+      let st = rw z at (records-stand 64 0 k (written-below k w) (rw z w)) in
+      body-stands (4 + 8 * countFrom os k 0) (ahead (tablesBelow j os 64) st) refl
+
+  -- ---- the header
+
+  pub accepted-result : Accepted (resultOf j os) (written os)
+  unfolding resultOf
+  accepted-result =
+      let a = length-enc 2 0 in
+      let f = count-few os 64 0 in
+      let l = length-result in
+      record {
+        count = sym (number-stands 2 (written os) (behind (enc 2 0) 2 (stands-append [] (enc 2 (written os)) (recordsFrom j os 64 0 ++ tablesBelow j os 64)) (omega arith)) (omega arith));
+        header = omega arith;
+        zero = number-stands 2 0 (stands-append [] (enc 2 0) (enc 2 (written os) ++ (recordsFrom j os 64 0 ++ tablesBelow j os 64))) (omega arith);
+        few = f;
+        fits = omega arith;
+      }
+
+  -- ---- makers and offsets
+
+  pub maker-of : (k : ℕ) → isWritten (at os k) ≡ true → Maker (j .source) os k (makerOf (at os k) k)
+  maker-of k = go (at os k) refl
+    where
+      go : (o : Outcome) → at os k ≡ o → isWritten o ≡ true → Maker (j .source) os k (makerOf o k)
+      go NotRetained q e = absurd (false-true e)
+      go Skipped q e = absurd (false-true e)
+      go Empty q e = absurd (false-true e)
+      go TooLong q e = absurd (false-true e)
+      go Covered q e = absurd (false-true e)
+      go BadMapping q e = absurd (false-true e)
+      go (Served r) q e = s .served k r q
+      go (Made n) q e = record { earlier = omega arith; maker = rw q refl; alike = refl }
+
+  pub offset-small : (k : ℕ) → k < 64 → offsetOf os k < 4294967296
+  offset-small k h =
+      let p : k + 1 + (64 - (k + 1)) ≡ 64 = omega arith in
+      let z = zero-add (k + 1) in
+      let e = rw (p, z) at (sizes-split os (k + 1) (64 - (k + 1)) 0) in
+      omega (arith, e, s .small)
+
+  pub entry-written : (k : ℕ) → isWritten (at os k) ≡ true → Entry j os (countFrom os k 0) k
+  entry-written k w =
+      let st = record-stands k w in
+      let m = maker-of k w in
+      let b = written-below k w in
+      let i = countFrom os k 0 in
+      let p = platformOf (j .source) k in
+      let q = encodingOf (j .source) k in
+      let o = offsetOf os (makerOf (at os k) k) in
+      let u = length-enc 2 p in
+      let v = length-enc 2 q in
+      record {
+        platform = number-stands 2 p (stands-at (4 + 8 * i) 0 st (stands-append [] (enc 2 p) (enc 2 q ++ enc 4 o)) (omega arith)) (be-lt 2 (j .source) (4 + 8 * k) (s .bytes));
+        encoding = number-stands 2 q (stands-at (6 + 8 * i) 2 st (behind (enc 2 p) 2 (stands-append [] (enc 2 q) (enc 4 o)) (omega arith)) (omega arith)) (be-lt 2 (j .source) (6 + 8 * k) (s .bytes));
+        offset = number-stands 4 o (stands-at (8 + 8 * i) 4 st (behind (enc 2 p) 4 (behind (enc 2 q) 2 (whole (enc 4 o)) (omega arith)) (omega arith)) (omega arith)) (offset-small (makerOf (at os k) k) (omega (arith, m .earlier)));
+      }
+    where
+      stands-at : {xs t u : List ℕ} {place : ℕ} (there i : ℕ) → Stands xs place t → Stands t i u → there ≡ place + i → Stands xs there u
+      stands-at {xs} {t} {u} {place} there i a b e = rw e (stands-in place i a b)
