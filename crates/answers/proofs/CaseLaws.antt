@@ -8,8 +8,7 @@ use Rattle.laws.specs.Search.{first, some}
 use Rattle.laws.specs.Select.{each, select, anyOf, flat}
 use Rattle.laws.specs.Pieces.{pieces, concat}
 use Rattle.number.specs.BigEndian.{be, enc}
-use Rattle.number.specs.Columns.{encs}
-use Rattle.number.specs.Row.{encs as encs′}
+use Rattle.number.specs.Row.{encs}
 use Rattle.source.specs.Header.{refused5}
 use Rattle.source.specs.Kind.{kindAt}
 use Rattle.records.specs.Records.{leadsTo, bmpPair, fullPair, retained, someRetained}
@@ -19,7 +18,7 @@ use Rattle.mapped4.specs.Mapped4.{entry4, says4, lastSays, maps4}
 use Rattle.listing.specs.Listing.{maps, listed}
 use Rattle.covering.specs.Covered.{covered, siblingCovers}
 use Rattle.ranges.specs.Cutting.{commitRun, cutRuns, cuts, segments, glyphArray, arrayFrom}
-use Rattle.format4.specs.Format4.{segmentsOf, arrayOf, offsetsFrom, logFrom, floorLog2, header, format4}
+use Rattle.format4.specs.Format4.{offsetsFrom, logFrom, floorLog2, header, format4}
 use Rattle.format4.specs.Size.{sizeOf}
 use Rattle.plan.specs.declared.Outcome.the-variants.{NotRetained, Made}
 use Rattle.plan.specs.Plan.{tableOf, fresh, serves, outcomeOf, outcomes, plan, refused8, refused9}
@@ -31,7 +30,7 @@ use Rattle.heads.specs.Heads.{oldOf, newOf, byRecords, oldHead, newHead}
 use Rattle.answers.specs.Case.{bytes, job}
 
 plan-case : plan job ≡ set (replicate 64 NotRetained) 0 (Made 32)
-unfolding ifLt ifLe ifEq first some each select anyOf pieces concat be enc encs encs′ kindAt leadsTo bmpPair fullPair retained entry4 says4 lastSays maps4 maps listed covered siblingCovers commitRun cutRuns cuts segments glyphArray arrayFrom segmentsOf arrayOf offsetsFrom sizeOf fresh serves outcomeOf outcomes plan
+unfolding ifLt ifLe ifEq first some each select anyOf pieces concat be enc encs kindAt leadsTo bmpPair fullPair retained entry4 says4 lastSays maps4 maps listed covered siblingCovers commitRun cutRuns cuts segments glyphArray arrayFrom offsetsFrom sizeOf fresh serves outcomeOf outcomes plan
 plan-case = refl
 
 pub accepted-case : refusalOf job ≡ 0
@@ -39,7 +38,7 @@ unfolding ifLt ifLe ifEq first some anyOf be refused5 kindAt leadsTo bmpPair ful
 accepted-case = rw plan-case
 
 written-case : resultOf job (set (replicate 64 NotRetained) 0 (Made 32)) ≡ bytes
-unfolding ifLt ifLe ifEq first some each select anyOf flat pieces concat be enc encs encs′ kindAt leadsTo entry4 says4 lastSays maps4 maps listed commitRun cutRuns cuts segments glyphArray arrayFrom segmentsOf arrayOf offsetsFrom logFrom floorLog2 header format4 tableOf countFrom sizesFrom recordsFrom tablesBelow resultOf
+unfolding ifLt ifLe ifEq first some each select anyOf flat pieces concat be enc encs kindAt leadsTo entry4 says4 lastSays maps4 maps listed commitRun cutRuns cuts segments glyphArray arrayFrom offsetsFrom logFrom floorLog2 header format4 tableOf countFrom sizesFrom recordsFrom tablesBelow resultOf
 written-case = refl
 
 pub result-case : resultOf job (plan job) ≡ bytes

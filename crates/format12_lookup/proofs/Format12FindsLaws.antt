@@ -11,7 +11,7 @@ use Rattle.laws.specs.Listed.{listed, listedGlyph}
 use Rattle.laws.specs.Search.{first}
 use Rattle.laws.proofs.ChoiceLaws.{by-leb, if-lt, else-lt, if-le, else-le}
 use Rattle.laws.proofs.ListedLaws.{listed-ap}
-use Rattle.laws.proofs.SameLaws.{if-lt-same}
+use Rattle.laws.proofs.BranchLaws.{if-lt-same}
 use Rattle.laws.proofs.StandsLaws.{Stands}
 use Rattle.source.specs.Kind.{lengthOf}
 use Rattle.source.specs.Fields.{startCharCode, startGlyphID, endCharCode}

@@ -12,10 +12,10 @@ use Rattle.laws.specs.Select.{each, flat}
 use Rattle.laws.proofs.ChoiceLaws.{by-pick, by-leb}
 use Rattle.laws.proofs.LastsLaws.{by-test, lasts-again, lasts-new, length-concat}
 use Rattle.laws.proofs.LengthLaws.{length-each, length-map, length-select}
-use Rattle.laws.proofs.StandsLaws.{Stands}
+use Rattle.laws.proofs.StandsLaws.{Stands, stands-append}
 use Rattle.number.specs.BigEndian.{be, enc}
 use Rattle.number.proofs.BigEndianLaws.{length-enc, be-front, be-back, be-enc-fits}
-use Rattle.number.proofs.ColumnsLaws.{be-between}
+use Rattle.number.proofs.StandsLaws.{be-stands}
 use Rattle.source.specs.declared.Kind.the-variants.{Format14}
 use Rattle.source.specs.Kind as source
 use Rattle.source.proofs.KindLaws.{gives14, Readable14}
@@ -130,7 +130,7 @@ module _ (rs : List Row) where
     long : be 4 T 2 ≡ lengthOf rs
     long =
         in-head 4 2 (omega arith)
-        ∙ be-between 4 (enc 2 14) (enc 4 (lengthOf rs)) (enc 4 (length rs)) 0 2 (omega (arith, length-enc 2 14)) (omega (arith, length-enc 4 (lengthOf rs)))
+        ∙ be-stands (stands-append (enc 2 14) (enc 4 (lengthOf rs)) (enc 4 (length rs))) 4 0 2 (omega (arith, length-enc 2 14)) (omega (arith, length-enc 4 (lengthOf rs)))
         ∙ be-enc-fits 4 (lengthOf rs) (omega (arith, fits))
 
     many : be 4 T 6 ≡ length rs
