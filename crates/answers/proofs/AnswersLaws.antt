@@ -20,13 +20,13 @@ use Rattle.lookup.specs.declared.Found.{Found}
 use Rattle.lookup.specs.Lookup.{lookup4, lookup12, glyphOf}
 use Rattle.heads.specs.declared.Answer.{Answer}
 use Rattle.heads.specs.declared.Answer.the-variants.{Glyph, Refused}
-use Rattle.heads.specs.Heads.{oldHead, newHead} 
+use Rattle.heads.specs.Heads.{oldHead, newHead}
 use Rattle.heads.specs.Heads.{leadsTo as headLeadsTo}
 use Rattle.heads.proofs.HeadsLaws.{old-first, old-none, new-first, new-as-old}
 use Rattle.plan.specs.declared.Outcome.{Outcome}
 use Rattle.plan.specs.declared.Outcome.the-variants.{NotRetained, Skipped, Empty, TooLong, Covered, BadMapping, Served, Made}
 use Rattle.plan.specs.Plan.{listedOf, tableOf, isMade}
-use Rattle.result.specs.Result.{isWritten, makerOf, at, countFrom, written, resultOf} 
+use Rattle.result.specs.Result.{isWritten, makerOf, at, countFrom, written, resultOf}
 use Rattle.result.specs.Result.{offsetOf as offsetIn}
 use Rattle.result.proofs.CountLaws.{Ith, count-one, count-find}
 use Rattle.result.proofs.PlacesLaws.{Sound, Maker, Entry, made-written, written-below, table-stands, accepted-result, maker-of, entry-written}

@@ -21,7 +21,7 @@ use Rattle.ranges.specs.Cutting.{commitRun, cutRuns, cuts, segments, glyphArray
 use Rattle.format4.specs.Format4.{offsetsFrom, logFrom, floorLog2, header, format4}
 use Rattle.format4.specs.Size.{sizeOf}
 use Rattle.plan.specs.declared.Outcome.the-variants.{NotRetained, Made}
-use Rattle.plan.specs.Plan.{tableOf, fresh, serves, outcomeOf, outcomes, plan, refused8, refused9}
+use Rattle.plan.specs.Plan.{tableOf, fresh, serves, server, retainedOutcome, outcomeOf, outcomes, plan, refused8, refused9}
 use Rattle.result.specs.Refusal.{refusalOf}
 use Rattle.result.specs.Result.{countFrom, sizesFrom, recordsFrom, tablesBelow, resultOf}
 use Rattle.lookup.specs.Lookup.{inArray, inSegment, find4, lookup4}
@@ -30,7 +30,7 @@ use Rattle.heads.specs.Heads.{oldOf, newOf, byRecords, oldHead, newHead}
 use Rattle.answers.specs.Case.{bytes, job}
 
 plan-case : plan job ≡ set (replicate 64 NotRetained) 0 (Made 32)
-unfolding ifLt ifLe ifEq first some each select anyOf pieces concat be enc encs kindAt leadsTo bmpPair fullPair retained entry4 says4 lastSays maps4 maps listed covered siblingCovers commitRun cutRuns cuts segments glyphArray arrayFrom offsetsFrom sizeOf fresh serves outcomeOf outcomes plan
+unfolding ifLt ifLe ifEq first some each select anyOf pieces concat be enc encs kindAt leadsTo bmpPair fullPair retained entry4 says4 lastSays maps4 maps listed covered siblingCovers commitRun cutRuns cuts segments glyphArray arrayFrom offsetsFrom sizeOf fresh serves server retainedOutcome outcomeOf outcomes plan
 plan-case = refl
 
 pub accepted-case : refusalOf job ≡ 0

@@ -29,7 +29,7 @@ use Rattle.format14.specs.declared.Outcome.the-variants.{Refused8, Empty as Emp
 use Rattle.format14.specs.Format14.{outcome as outcome14}
 use Rattle.plan.specs.declared.Outcome.{Outcome}
 use Rattle.plan.specs.declared.Outcome.the-variants.{NotRetained, Skipped, Empty, TooLong, Covered, BadMapping, Served, Made}
-use Rattle.plan.specs.Plan.{listedOf, givenOf, by4, by14, freshAs, fresh, isMade, sizeOf, serves, outcomeOf, outcomes, plan}
+use Rattle.plan.specs.Plan.{server as earliest, retainedOutcome, listedOf, givenOf, by4, by14, freshAs, fresh, isMade, sizeOf, serves, outcomeOf, outcomes, plan}
 use Rattle.made.proofs.MadeLaws.{not-made}
 
 -- ---- the row of outcomes
@@ -77,15 +77,15 @@ module _ (j : Job) (os : List Outcome) (k : ℕ) where
 
   by-outcome : (P : Outcome → Type 0) → (keeps ≡ false → P NotRetained) → (keeps ≡ true → covers ≡ true → P Covered)
       → (keeps ≡ true → covers ≡ false → server < k → P (Served server)) → (keeps ≡ true → covers ≡ false → k ≤ server → P (fresh j k)) → P (outcomeOf j os k)
-  unfolding outcomeOf
+  unfolding outcomeOf retainedOutcome earliest
   by-outcome P a b c d =
-      by-pick P (not keeps) NotRetained (pick covers Covered (pick (ltb server k) (Served server) (fresh j k)))
-      (λ e. a (not-true keeps (λ q. false-true (rw q at e))))
+      by-pick P keeps (pick covers Covered (pick (ltb server k) (Served server) (fresh j k))) NotRetained
       (λ e. by-pick P covers Covered (pick (ltb server k) (Served server) (fresh j k))
-      (λ f. b (true-of-not keeps e) f)
+      (λ f. b e f)
       (λ f. by-pick P (ltb server k) (Served server) (fresh j k)
-      (λ g. c (true-of-not keeps e) f (ltb-true server k g))
-      (λ g. d (true-of-not keeps e) f (ltb-false server k g))))
+      (λ g. c e f (ltb-true server k g))
+      (λ g. d e f (ltb-false server k g))))
+      a
 
 -- ---- only the walk says that a record is served
 

@@ -16,7 +16,7 @@ use Rattle.number.proofs.BigEndianLaws.{be-lt, be-front, be-back, length-enc, b
 use Rattle.number.specs.Limits.{recordsMax}
 use Rattle.source.specs.Header.{version, recordCount, platformOf, encodingOf, offsetOf as offsetAt}
 use Rattle.source.proofs.HeaderLaws.{Accepted}
-use Rattle.source.proofs.StandsLaws.{be-stands}
+use Rattle.number.proofs.StandsLaws.{be-stands}
 use Rattle.source.specs.Kind.{formatOf}
 use Rattle.records.specs.Records.{leadsTo}
 use Rattle.listing.specs.Job.{Job}
