@@ -30,7 +30,8 @@ use Rattle.result.specs.Result.{isWritten, makerOf, at, countFrom, written, res
 use Rattle.result.specs.Result.{offsetOf as offsetIn}
 use Rattle.result.proofs.CountLaws.{Ith, count-one, count-find}
 use Rattle.result.proofs.PlacesLaws.{Sound, Maker, Entry, made-written, written-below, table-stands, accepted-result, maker-of, entry-written}
-use Rattle.answers.specs.Answers.{makes, answerBy, oldAnswer, newAnswer}
+use Rattle.result.specs.Result.{makes}
+use Rattle.answers.specs.Answers.{answerBy, oldAnswer, newAnswer}
 
 -- a table that a record made, wherever it stands, has the record's format, and a lookup of that format gives the listed glyphs
 pub record Reads (format : ℕ) (look : List ℕ → ℕ → ℕ → Found) (j : Job) (os : List Outcome) : Type 0 where

@@ -34,9 +34,11 @@ use Rattle.result.specs.Refusal.{refusalOf}
 use Rattle.result.specs.Result.{isWritten, makerOf, at, resultOf, resultLength, written}
 use Rattle.result.proofs.PlacesLaws.{Sound, maker-of, length-result, accepted-result}
 use Rattle.result.proofs.RefusalLaws.{Passed, passed}
-use Rattle.answers.specs.Answers.{makes, answerBy, oldAnswer, newAnswer}
+use Rattle.result.specs.Result.{makes}
+use Rattle.answers.specs.Answers.{answerBy, oldAnswer, newAnswer}
 use Rattle.answers.proofs.AnswersLaws.{old-answer, new-answer}
-use Rattle.answers.proofs.SoundLaws.{plan-sound, plan-reads4, plan-reads12, first-maker}
+use Rattle.result.proofs.SoundLaws.{plan-sound, first-maker}
+use Rattle.answers.proofs.ReadsLaws.{plan-reads4, plan-reads12}
 
 -- ---- what an answer may print
 

@@ -1,4 +1,4 @@
 pub mod AnswersLaws
-pub mod SoundLaws
+pub mod ReadsLaws
 pub mod JobLaws
 pub mod CaseLaws

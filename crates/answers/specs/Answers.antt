@@ -1,24 +1,18 @@
 -- What the heads are to give of a job's result, told by the job alone (docs/01-rules.md, "Heads", "Records").
 use Prim.Native.Nat.{ℕ}
 use mathlib.Core.List.{List}
-use mathlib.Core.Bool.{Bool}
-use Rattle.laws.specs.Choice.{both, ifLt}
+use Rattle.laws.specs.Choice.{ifLt}
 use Rattle.laws.specs.Listed.{listedGlyph}
 use Rattle.laws.specs.Search.{first}
 use Rattle.number.specs.Limits.{recordsMax}
-use Rattle.records.specs.Records.{leadsToFormat}
 use Rattle.listing.specs.Job.{Job}
 use Rattle.heads.specs.declared.Answer.{Answer}
 use Rattle.heads.specs.declared.Answer.the-variants.{Glyph, Refused}
 use Rattle.plan.specs.declared.Outcome.{Outcome}
-use Rattle.plan.specs.Plan.{listedOf, isMade}
-use Rattle.result.specs.Result.{at}
+use Rattle.plan.specs.Plan.{listedOf}
+use Rattle.result.specs.Result.{makes}
 
--- record k of the source made a table of that format
-abbrev pub makes : Job → List Outcome → ℕ → ℕ → Bool
-makes j os format k = both (isMade (at os k)) (leadsToFormat format (j .source) k)
-
--- the first record that did decides: c's glyph among the listed pairs that its subtable maps, 0 where there is none
+-- the first record that made a table of that format decides: c's glyph among the listed pairs that its subtable maps, 0 where there is none
 unfoldable pub answerBy : ℕ → Job → List Outcome → ℕ → Answer → Answer
 answerBy format j os c other =
     let r = first (makes j os format) recordsMax 0 in

@@ -1,3 +1,4 @@
 pub mod CountLaws
 pub mod PlacesLaws
 pub mod RefusalLaws
+pub mod SoundLaws

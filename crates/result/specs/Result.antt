@@ -3,10 +3,11 @@ use Prim.Native.Nat.{ℕ, zero, suc, _+_, _*_, _-_}
 use mathlib.Core.List.{List, [], _++_}
 use mathlib.Core.Bool.{Bool, true, false}
 use lib.ListN.{getD}
-use Rattle.laws.specs.Choice.{pick}
+use Rattle.laws.specs.Choice.{pick, both}
 use Rattle.number.specs.BigEndian.{enc}
 use Rattle.number.specs.Limits.{recordsMax}
 use Rattle.source.specs.Header.{platformOf, encodingOf}
+use Rattle.records.specs.Records.{leadsToFormat}
 use Rattle.listing.specs.Job.{Job}
 use Rattle.plan.specs.declared.Outcome.{Outcome}
 use Rattle.plan.specs.declared.Outcome.the-variants.{NotRetained, Skipped, Empty, TooLong, Covered, BadMapping, Served, Made}
@@ -38,6 +39,10 @@ makerOf (Made size) k = k
 
 abbrev pub at : List Outcome → ℕ → Outcome
 at os k = getD os k NotRetained
+
+-- record k of the source made a table of that format
+abbrev pub makes : Job → List Outcome → ℕ → ℕ → Bool
+makes j os format k = both (isMade (at os k)) (leadsToFormat format (j .source) k)
 
 -- ---- counts, of the n records from k on
 

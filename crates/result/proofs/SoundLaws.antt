@@ -19,7 +19,6 @@ use Rattle.source.specs.Header.{recordCount}
 use Rattle.source.specs.Kind.{formatOf}
 use Rattle.records.specs.Records.{leadsTo, leadsToFormat}
 use Rattle.listing.specs.Job.{Job}
-use Rattle.lookup.specs.Lookup.{lookup4, lookup12}
 use Rattle.format12_lookup.proofs.BytesLaws.{groups-few}
 use Rattle.format12_lookup.proofs.Format12KindLaws.{length-is}
 use Rattle.plan.specs.declared.Outcome.the-variants.{Made}
@@ -27,16 +26,14 @@ use Rattle.plan.specs.Plan.{listedOf, isMade, sizeOf, fresh, plan}
 use Rattle.made.specs.Lent.{Lent}
 use Rattle.made.proofs.ListedLaws.{above-listed}
 use Rattle.made.proofs.MadeLaws.{made-length, by-format, made-written4, table-is}
-use Rattle.made.proofs.TablesLaws.{made-short, made-format, made-finds4, made-finds12}
+use Rattle.made.proofs.TablesLaws.{made-short}
 use Rattle.made.proofs.PlanLaws.{Making, plan-past, plan-made, plan-served}
-use Rattle.result.specs.Result.{at, sizesFrom}
+use Rattle.result.specs.Result.{at, makes, sizesFrom}
 use Rattle.result.proofs.CountLaws.{count-few, sizes-snoc}
 use Rattle.result.proofs.PlacesLaws.{Sound, made-is, not-made}
-use Rattle.answers.specs.Answers.{makes}
-use Rattle.answers.proofs.AnswersLaws.{Reads}
 
 module _ (j : Job) (l : Lent j) (few : recordCount (j .source) ≤ recordsMax) where
-  making : (k : ℕ) → isMade (at (plan j) k) ≡ true → Making j k (sizeOf (at (plan j) k))
+  pub making : (k : ℕ) → isMade (at (plan j) k) ≡ true → Making j k (sizeOf (at (plan j) k))
   making k e = plan-made j few k (sizeOf (at (plan j) k)) (made-is (at (plan j) k) e)
 
   -- ---- how long a table can be
@@ -134,16 +131,4 @@ module _ (j : Job) (l : Lent j) (few : recordCount (j .source) ≤ recordsMax) w
         record { earlier = omega (arith, t .earlier); maker = rw (t .made) refl; alike = t .same };
     small = omega (arith, count-few (plan j) 64 0, sizes-shared 64, share-most 4 65535 64, share-most 12 13369360 64, share-most 14 2147483648 64);
     bytes = l .bytes;
-  }
-
-  pub plan-reads4 : Reads 4 lookup4 j (plan j)
-  plan-reads4 = record {
-    alike = λ k xs place m st. made-format l k (sizeOf (at (plan j) k)) (making k m .is) st;
-    gives = λ k xs place m st f c. made-finds4 l k (sizeOf (at (plan j) k)) (making k m .is) st (eqb-true (formatOf (leadsTo (j .source) k)) 4 f) c;
-  }
-
-  pub plan-reads12 : Reads 12 lookup12 j (plan j)
-  plan-reads12 = record {
-    alike = λ k xs place m st. made-format l k (sizeOf (at (plan j) k)) (making k m .is) st;
-    gives = λ k xs place m st f c. made-finds12 l k (sizeOf (at (plan j) k)) (making k m .is) st (eqb-true (formatOf (leadsTo (j .source) k)) 12 f) c;
   }
