@@ -7,7 +7,6 @@ use native.Mathlib.Omega.{arith}
 use lib.ListN.{length}
 use lib.Seq.{sets}
 use Rattle.laws.specs.Lists.{Pair}
-use Rattle.laws.proofs.ChoiceLaws.{false-true}
 use Rattle.source.specs.declared.Kind.{Kind}
 use Rattle.source.specs.declared.Kind.the-variants.{Format4, Format12, Format14, Unreadable}
 use Rattle.source.specs.Header.{offsetOf}
@@ -30,11 +29,8 @@ use Rattle.plan.specs.declared.Outcome.{Outcome}
 use Rattle.plan.specs.declared.Outcome.the-variants.{Made}
 use Rattle.plan.specs.Plan.{tableAs, tableOf, by4, by14, fresh, isMade, sizeOf}
 use Rattle.plan.proofs.FreshLaws.{leads4, readable14}
+use Rattle.made.proofs.MadeLaws.{not-made, table-is}
 use Rattle.writing.specs.Writing.{Room}
-
--- another outcome than a made table
-not-made : (P : Type 0) (o : Outcome) (n : ℕ) → isMade o ≡ false → o ≡ Made n → P
-not-made P o n f e = absurd (false-true (sym f ∙ ap isMade e))
 
 sized4 : (ps : List Pair) (place n l : ℕ) (size : Size) → sizeOf4 ps ≡ size → by4 size ≡ Made n → place + n ≤ l → Fits4 ps place l
 sized4 ps place n l Empty q e h = not-made (Fits4 ps place l) (by4 Empty) n refl e
@@ -45,10 +41,6 @@ sized14 : (o : Outcome14) (n : ℕ) → by14 o ≡ Made n → Length n ≡ o
 sized14 Refused8 n e = not-made (Length n ≡ Refused8) (by14 Refused8) n refl e
 sized14 Empty14 n e = not-made (Length n ≡ Empty14) (by14 Empty14) n refl e
 sized14 (Length m) n e = ap Length (sym (ap sizeOf e))
-
-table-is : (j : Job) (k : ℕ) (kind : Kind) → leadsTo (j .source) k ≡ kind → tableOf j k ≡ tableAs kind j k
-unfolding tableOf
-table-is j k kind e = ap (λ (x : Kind). tableAs x j k) e
 
 module _ (xs : List ℕ) (k : ℕ) (kind : Kind) (q : kind ≡ leadsTo xs k) (cs gs kept map requested : List ℕ) (place : ℕ) where
   abbrev j : Job
