@@ -8,7 +8,7 @@ use Rattle.records.specs.Records.{Placed}
 use Rattle.listing.specs.Job.{Job, job}
 use Rattle.plan.specs.declared.Outcome.{Outcome}
 use Rattle.plan.specs.declared.Outcome.the-variants.{Made}
-use Rattle.plan.specs.Plan.{fresh, Small}
+use Rattle.plan.specs.Plan.{fresh, plan, Small, Prepared}
 use Rattle.result.specs.Result.{isWritten, makerOf, at, written}
 
 -- a job of that source: its records' bytes depend on nothing else of it
@@ -39,3 +39,11 @@ pub record Room (j : Job) (k place l : ℕ) : Type 0 where
   pub size : ℕ
   pub is : fresh j k ≡ Made size
   pub fits : place + size ≤ l
+
+-- the outcomes are the plan of a job that may be worked on, and so many of its records are written; the flags and the last two lists are work room, as are the others, which writing does without
+pub record Planned (j : Job) (os : List Outcome) (count : ℕ) (flags tocodes toglyphs : List ℕ) : Type 0 where
+  pub m : ℕ
+  pub others : List ℕ
+  pub prepared : Prepared j m flags others tocodes toglyphs
+  pub is : os ≡ plan j
+  pub counts : Counts os count

@@ -7,7 +7,6 @@ use native.Mathlib.Omega.{arith}
 use lib.ListN.{length}
 use lib.Seq.{sets}
 use Rattle.laws.specs.Lists.{Pair}
-use Rattle.laws.proofs.ChoiceLaws.{false-true}
 use Rattle.source.specs.declared.Kind.{Kind}
 use Rattle.source.specs.declared.Kind.the-variants.{Format4, Format12, Format14, Unreadable}
 use Rattle.source.specs.Header.{offsetOf}
@@ -30,25 +29,13 @@ use Rattle.plan.specs.declared.Outcome.{Outcome}
 use Rattle.plan.specs.declared.Outcome.the-variants.{Made}
 use Rattle.plan.specs.Plan.{tableAs, tableOf, by4, by14, fresh, isMade, sizeOf}
 use Rattle.plan.proofs.FreshLaws.{leads4, readable14}
+use Rattle.made.proofs.MadeLaws.{not-made, made-length, table-is}
 use Rattle.writing.specs.Writing.{Room}
-
--- another outcome than a made table
-not-made : (P : Type 0) (o : Outcome) (n : ℕ) → isMade o ≡ false → o ≡ Made n → P
-not-made P o n f e = absurd (false-true (sym f ∙ ap isMade e))
 
 sized4 : (ps : List Pair) (place n l : ℕ) (size : Size) → sizeOf4 ps ≡ size → by4 size ≡ Made n → place + n ≤ l → Fits4 ps place l
 sized4 ps place n l Empty q e h = not-made (Fits4 ps place l) (by4 Empty) n refl e
 sized4 ps place n l TooLong q e h = not-made (Fits4 ps place l) (by4 TooLong) n refl e
 sized4 ps place n l (Fits c) q e h = record { counter = c; is = q; room = omega (arith, ap sizeOf e) }
-
-sized14 : (o : Outcome14) (n : ℕ) → by14 o ≡ Made n → Length n ≡ o
-sized14 Refused8 n e = not-made (Length n ≡ Refused8) (by14 Refused8) n refl e
-sized14 Empty14 n e = not-made (Length n ≡ Empty14) (by14 Empty14) n refl e
-sized14 (Length m) n e = ap Length (sym (ap sizeOf e))
-
-table-is : (j : Job) (k : ℕ) (kind : Kind) → leadsTo (j .source) k ≡ kind → tableOf j k ≡ tableAs kind j k
-unfolding tableOf
-table-is j k kind e = ap (λ (x : Kind). tableAs x j k) e
 
 module _ (xs : List ℕ) (k : ℕ) (kind : Kind) (q : kind ≡ leadsTo xs k) (cs gs kept map requested : List ℕ) (place : ℕ) where
   abbrev j : Job
@@ -64,10 +51,7 @@ module _ (xs : List ℕ) (k : ℕ) (kind : Kind) (q : kind ≡ leadsTo xs k) (cs
 
   module _ (language g len : ℕ) (e : kind ≡ Format12 language g len) where
     pub room-12 : (l : ℕ) → Room j k place l → place + length (format12 language (listed xs (length map) cs gs k)) ≤ l
-    unfolding fresh
-    room-12 l r =
-        let is = ap sizeOf (rw (← q, e) at (r .is)) in
-        omega (arith, is, length-table 12 language (groups (listed xs (length map) cs gs k)), r .fits)
+    room-12 l r = omega (arith, made-length j k (r .size) (r .is) ∙ ap length (table-is j k (Format12 language g len) (sym q ∙ e)), r .fits)
 
     pub wrote-12 : (out next : List ℕ) → next ≡ sets out place (format12 language (listed xs (length map) cs gs k)) → next ≡ sets out place (tableOf j k)
     wrote-12 out next h = rw (table-is j k (Format12 language g len) (sym q ∙ e)) h
@@ -77,12 +61,7 @@ module _ (xs : List ℕ) (k : ℕ) (kind : Kind) (q : kind ≡ leadsTo xs k) (cs
     table-14 = rw p (table-is j k (Format14 n len) (sym q ∙ e))
 
     pub room-14 : (l : ℕ) → Room j k place l → place + lengthOf (rows (given xs at len kept map requested)) ≤ l
-    unfolding fresh
-    room-14 l r =
-        let g = given xs at len kept map requested in
-        let is = sized14 (outcome14 g) (r .size) (rw (← q, e, ← p) at (r .is)) in
-        let long = outcome-says g (r .size) is ∙ length-format14 (rows g) in
-        omega (arith, long, r .fits)
+    room-14 l r = omega (arith, made-length j k (r .size) (r .is) ∙ ap length table-14 ∙ length-format14 (rows (given xs at len kept map requested)), r .fits)
 
     pub wrote-14 : (out next : List ℕ) → next ≡ sets out place (format14 (rows (given xs at len kept map requested))) → next ≡ sets out place (tableOf j k)
     wrote-14 out next h = rw table-14 h

@@ -18,6 +18,7 @@ use Rattle.listing.specs.Job.{Job}
 use Rattle.plan.specs.declared.Outcome.{Outcome}
 use Rattle.plan.specs.declared.Outcome.the-variants.{NotRetained}
 use Rattle.result.specs.Result.{isWritten, makerOf, at, countFrom, offsetOf, recordBytes, recordsFrom}
+use Rattle.writing.proofs.LengthLaws.{length-record}
 use Rattle.writing.specs.Writing.{sourced, Counts, Recorded, Laid}
 
 -- ---- a record's numbers
@@ -53,13 +54,7 @@ numbers-are out mid two fin i x y z e₁ e₂ e₃ =
       far,
     )
 
-length-three : (x y z : ℕ) → length (enc 2 x ++ (enc 2 y ++ enc 4 z)) ≡ 8
-length-three x y z = rw (length-append (enc 2 x) (enc 2 y ++ enc 4 z), length-append (enc 2 y) (enc 4 z), length-enc 2 x, length-enc 2 y, length-enc 4 z)
-
 -- ---- one record
-
-pub length-record : (j : Job) (os : List Outcome) (k : ℕ) → length (recordBytes j os k) ≡ 8
-length-record j os k = length-three (platformOf (j .source) k) (encodingOf (j .source) k) (offsetOf os (makerOf (at os k) k))
 
 -- only the source counts
 pub records-sourced : (j : Job) (os : List Outcome) (n k : ℕ) → recordsFrom j os n k ≡ recordsFrom (sourced (j .source)) os n k
