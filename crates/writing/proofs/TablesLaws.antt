@@ -24,6 +24,7 @@ use Rattle.writing.proofs.PlannedLaws.{planned-again, ready-of, making-
 pub record Tabling (j : Job) (os : List Outcome) (count : ℕ) (out₀ fs₀ tocs₀ togs₀ out fs tocs togs : List ℕ) (place k : ℕ) : Type 0 where
   pub within : k ≤ 64
   pub planned : Planned j os count fs tocs togs
+  pub low : place + 4294967296 * k ≤ 516 + 64 * 4294967296
   pub room : place + sizesFrom os k 0 ≤ length out
   pub same : length out ≡ length out₀
   pub flags : length fs ≡ length fs₀
@@ -36,6 +37,7 @@ pub tabling-start : (j : Job) (os : List Outcome) (count : ℕ) (out fs tocs tog
 tabling-start j os count out fs tocs togs p h = record {
   within = omega arith;
   planned = p;
+  low = omega (arith, p .counts .few);
   room = omega (arith, p .counts .is);
   same = refl;
   flags = refl;
@@ -65,6 +67,7 @@ module _ (j : Job) (os : List Outcome) (count : ℕ) (out₀ fs₀ tocs₀ togs�
         record {
           within = omega (arith, l .within);
           planned = l .planned;
+          low = omega (arith, l .low);
           room = omega (arith, l .room, sizes-down, not-made (at os (k - 1)) (sym q ∙ e));
           same = l .same;
           flags = l .flags;
@@ -84,9 +87,6 @@ module _ (j : Job) (os : List Outcome) (count : ℕ) (out₀ fs₀ tocs₀ togs�
         fits = omega (arith, l .room, sizes-down);
       }
 
-      pub tabling-fits : (size : ℕ) → size ≡ sizeOf (getD os (k - 1) NotRetained) → place + size ≤ length out
-      tabling-fits size s = omega (arith, l .room, sizes-down)
-
       pub tabling-yes : (next fs′ tocs′ togs′ : List ℕ) (size : ℕ) → next ≡ sets out place (tableOf j (k - 1)) → size ≡ sizeOf (getD os (k - 1) NotRetained)
           → length fs′ ≡ length fs → length tocs′ ≡ length tocs → length togs′ ≡ length togs
           → Tabling j os count out₀ fs₀ tocs₀ togs₀ next fs′ tocs′ togs′ (place + size) (k - 1)
@@ -98,6 +98,7 @@ module _ (j : Job) (os : List Outcome) (count : ℕ) (out₀ fs₀ tocs₀ togs�
           let whole : size ≡ length table = s ∙ size-made j os (lengths j os count fs tocs togs (l .planned)) (k - 1) (sym q ∙ e) in
           record {
             within = omega (arith, l .within);
+            low = omega (arith, l .low, s, l .planned .counts .small .each (k - 1) .below);
             planned = planned-again j os count fs tocs togs (l .planned) fs′ tocs′ togs′ a b c;
             room = omega (arith, l .room, sizes-down, long);
             same = long ∙ l .same;
@@ -107,4 +108,9 @@ module _ (j : Job) (os : List Outcome) (count : ℕ) (out₀ fs₀ tocs₀ togs�
             left = rw (w, whole) (sets-append out place table rest ∙ rw (← q, e) at (ap (λ (n : ℕ). sets out place (tablesBelow j os n)) (sym down) ∙ l .left));
           }
 
-pub ruleset tabling = (tabling-start, tabling-end, tabling-no, tabling-ready, tabling-room, tabling-fits, tabling-yes)
+pub ruleset tabling = (tabling-start, tabling-end, tabling-no, tabling-ready, tabling-room, tabling-yes)
+
+-- the next place is a number of 64 bits
+pub tabling-low : {j : Job} {os : List Outcome} {count : ℕ} {out₀ fs₀ tocs₀ togs₀ out fs tocs togs : List ℕ} {place k size : ℕ}
+    → Tabling j os count out₀ fs₀ tocs₀ togs₀ out fs tocs togs place k → 0 < k → size ≡ sizeOf (getD os (k - 1) NotRetained) → place + size ≤ 516 + 64 * 4294967296
+tabling-low {k = k} l h s = omega (arith, l .low, s, l .planned .counts .small .each (k - 1) .below)

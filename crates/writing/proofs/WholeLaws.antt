@@ -28,8 +28,8 @@ module _ (xs cs gs kept map requested : List ℕ) (os : List Outcome) (count : �
     pub planned-laid : Laid xs os count
     planned-laid = laid j os count fs tocs togs p
 
-    pub records-room : (out : List ℕ) → resultLength os ≤ length out → 4 + 8 * count ≤ length out
-    records-room out h = omega (arith, p .counts .is)
+    pub records-room : (out next : List ℕ) → resultLength os ≤ length out → length next ≡ length out → 4 + 8 * count ≤ length next
+    records-room out next h e = omega (arith, p .counts .is)
 
     pub whole-is : (out one two fin : List ℕ) → one ≡ sets out 0 (enc 2 0 ++ enc 2 count) → two ≡ sets one 4 (recordsFrom (sourced xs) os 64 0)
         → fin ≡ sets two (tablesStart os) (tablesBelow j os 64) → fin ≡ sets out 0 (resultOf j os)

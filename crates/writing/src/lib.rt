@@ -1,4 +1,4 @@
-// Writing a result by a plan: its records, and the table that a record makes.
+// Writing a result by a plan: header, records, and the tables that records make.
 use plan::Outcome;
 use source::Kind;
 ghost use mathlib.Core.Path.{_≡_};
@@ -9,8 +9,8 @@ ghost use lib.Seq.{sets};
 ghost use Rattle.number.specs.BigEndian.{enc};
 ghost use Rattle.listing.specs.Job.{job};
 ghost use Rattle.plan.specs.Plan.{tableOf, Ready};
-ghost use Rattle.result.specs.Result.{offsetOf, recordBytes, recordsFrom};
-ghost use Rattle.writing.specs.Writing.{sourced, Counts, Recorded, Laid, Room};
+ghost use Rattle.result.specs.Result.{tablesStart, offsetOf, recordBytes, recordsFrom, tablesBelow, resultOf, resultLength};
+ghost use Rattle.writing.specs.Writing.{sourced, Counts, Recorded, Laid, Room, Planned};
 
 // Where the table of record k stands, in a result of that many records.
 pub fn offset_of(os: [Outcome; 64], k: usize, count: usize) -> usize
@@ -19,6 +19,14 @@ pub fn offset_of(os: [Outcome; 64], k: usize, count: usize) -> usize
     ensures { λ r. ⌜ r ≡ offsetOf os k ⌝ }
 {
     4 + 8 * count + layout::sizes_from(os, k + 1)
+}
+
+// The length of the whole result.
+pub fn result_length(os: [Outcome; 64], count: usize) -> usize
+    requires { ⌜ Counts os count ⌝ }
+    ensures { λ r. ⌜ r ≡ resultLength os ⌝ }
+{
+    4 + 8 * count + layout::sizes_from(os, 0)
 }
 
 fn put_numbers(out: &mut [u8], place: usize, platform: u32, encoding: u32, offset: usize)
@@ -122,4 +130,95 @@ pub fn write_table(
         }
         Kind::Unreadable => {}
     }
+}
+
+// Writes the tables behind the records, the one made last first.
+fn write_tables(
+    out: &mut [u8],
+    s: &[u8],
+    codes: &[u32],
+    glyphs: &[u16],
+    kept: &[u32],
+    map: &[u16],
+    requested: &[u16],
+    flags: &mut [u8],
+    tocodes: &mut [u32],
+    toglyphs: &mut [u16],
+    os: [Outcome; 64],
+    count: usize,
+)
+    requires { ⌜ Planned (job (now s) (now codes) (now glyphs) (now kept) (now map) (now requested)) os count (now flags) (now tocodes) (now toglyphs) ⌝ }
+    requires { ⌜ resultLength os ≤ length (now out) ⌝ }
+    ensures { λ _. ⌜ now (out .exit) ≡ sets (now (out .entry)) (tablesStart os) (tablesBelow (job (now (s .entry)) (now (codes .entry)) (now (glyphs .entry)) (now (kept .entry)) (now (map .entry)) (now (requested .entry))) os 64) ⌝ }
+{
+    let mut place = 4 + 8 * count;
+    let mut k = 64;
+    while 0 < k {
+        k -= 1;
+        let o = os[k];
+        let next = place + layout::size_of(o);
+        if plan::is_made(o) {
+            write_table(
+                out,
+                place,
+                s,
+                codes,
+                glyphs,
+                kept,
+                map,
+                requested,
+                flags,
+                tocodes,
+                toglyphs,
+                k,
+            );
+            place = next;
+        }
+    }
+}
+
+fn put_header(out: &mut [u8], count: usize)
+    requires { ⌜ 4 ≤ length (now out) ⌝ }
+    requires { ⌜ count ≤ 64 ⌝ }
+    ensures { λ _. ⌜ now (out .exit) ≡ sets (now (out .entry)) 0 (enc 2 0 ++ enc 2 count) ⌝ }
+{
+    number::put_u16(out, 0, 0);
+    number::put_u16(out, 2, count as u32);
+}
+
+// Writes the whole result by a plan; the flags and the last two lists are work room.
+pub fn write_result(
+    out: &mut [u8],
+    s: &[u8],
+    codes: &[u32],
+    glyphs: &[u16],
+    kept: &[u32],
+    map: &[u16],
+    requested: &[u16],
+    flags: &mut [u8],
+    tocodes: &mut [u32],
+    toglyphs: &mut [u16],
+    os: [Outcome; 64],
+    count: usize,
+)
+    requires { ⌜ Planned (job (now s) (now codes) (now glyphs) (now kept) (now map) (now requested)) os count (now flags) (now tocodes) (now toglyphs) ⌝ }
+    requires { ⌜ resultLength os ≤ length (now out) ⌝ }
+    ensures { λ _. ⌜ now (out .exit) ≡ sets (now (out .entry)) 0 (resultOf (job (now (s .entry)) (now (codes .entry)) (now (glyphs .entry)) (now (kept .entry)) (now (map .entry)) (now (requested .entry))) os) ⌝ }
+{
+    put_header(out, count);
+    put_records(out, s, os, count);
+    write_tables(
+        out,
+        s,
+        codes,
+        glyphs,
+        kept,
+        map,
+        requested,
+        flags,
+        tocodes,
+        toglyphs,
+        os,
+        count,
+    );
 }
