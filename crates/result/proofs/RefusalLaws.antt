@@ -72,6 +72,7 @@ module _ (n : ℕ) (b : Bool) (back : List Case) where
     where
       rest : ℕ
       rest = firstOf (cs ++ ((n, b) ∷ back))
+
       go : (t : Bool) → pick t (c .0) rest ≡ n → (rest ≡ n → (b ≡ true) × (held cs ≡ false)) → (b ≡ true) × (either t (held cs) ≡ false)
       go true f o = absurd (omega (arith, f, later-above (c .0) n b cs back (others-rise m c (cs ++ ((n, b) ∷ back)) r)))
       go false f o = o f
