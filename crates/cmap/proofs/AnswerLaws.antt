@@ -61,8 +61,9 @@ refusal-low j =
 -- ---- the ways out
 
 -- an answer, and what it leaves of an output
-abbrev pub Answered : Job → List ℕ → Answer → List ℕ → Type 0
-Answered j out a fin = (a ≡ answerOf j (length out)) × (fin ≡ outputOf j out)
+record Answered (j : Job) (out : List ℕ) (a : Answer) (fin : List ℕ) : Type 0 where
+  answer : a ≡ answerOf j (length out)
+  output : fin ≡ outputOf j out
 
 module _ (j : Job) (out : List ℕ) where
   refused : (n : ℕ) → n ≡ refusalOf j → 0 < n → Answered j out (Refused n) out
@@ -71,17 +72,28 @@ module _ (j : Job) (out : List ℕ) where
       let q = number-refused j (length out) (omega (arith, e, h)) in
       let z = ne-eqb (refusalOf j) 0 (λ r. omega (arith, e, h, r)) in
       let t = ne-eqb (refusalOf j) 10 (λ r. omega (arith, refusal-low j, r)) in
-      (rw (q, z, t, e) refl, rw (q, z) refl)
+      record { answer = rw (q, z, t, e) refl; output = rw (q, z) refl }
 
-  pub refused-early : (n : ℕ) → n ≡ earlyRefusal j → 0 < n → Answered j out (Refused n) out
-  refused-early n e h = refused n (e ∙ sym (refusal-early j (omega (arith, e, h)))) h
+  module _ (n : ℕ) (e : n ≡ earlyRefusal j) (h : 0 < n) where
+    early : Answered j out (Refused n) out
+    early = refused n (e ∙ sym (refusal-early j (omega (arith, e, h)))) h
+
+    pub early-answer : Refused n ≡ answerOf j (length out)
+    early-answer = early .answer
+
+    pub early-output : out ≡ outputOf j out
+    early-output = early .output
 
   module _ (os : List Outcome) (p : Planned j os) (n : ℕ) (e : n ≡ lateRefusal (j .source) os) where
     late : n ≡ refusalOf j
     late = e ∙ ap (lateRefusal (j .source)) (p .is) ∙ sym (refusal-late j (p .passing .passed))
 
-    pub refused-late : 0 < n → Answered j out (Refused n) out
-    refused-late h = refused n late h
+    module _ (h : 0 < n) where
+      pub late-answer : Refused n ≡ answerOf j (length out)
+      late-answer = refused n late h .answer
+
+      pub late-output : out ≡ outputOf j out
+      late-output = refused n late h .output
 
     module _ (h : n ≤ 0) (needed : ℕ) (l : needed ≡ resultLength os) where
       zero-is : refusalOf j ≡ 0
@@ -90,21 +102,33 @@ module _ (j : Job) (out : List ℕ) where
       long : length (result j) ≡ needed
       long = result-length j (p .passing) ∙ ap resultLength (sym (p .is)) ∙ sym l
 
-      pub no-room : length out < needed → Answered j out (NoRoom needed) out
-      unfolding answerOf outputOf
-      no-room s =
-          let q = number-passed j (length out) zero-is in
-          let t = lt-ltb (length out) (length (result j)) (omega (arith, long, s)) in
-          (rw (q, t, long) refl, rw (q, t) refl)
+      module _ (s : length out < needed) where
+        short : Answered j out (NoRoom needed) out
+        unfolding answerOf outputOf
+        short =
+            let q = number-passed j (length out) zero-is in
+            let t = lt-ltb (length out) (length (result j)) (omega (arith, long, s)) in
+            record { answer = rw (q, t, long) refl; output = rw (q, t) refl }
 
-      pub all-written : (count : ℕ) (fin : List ℕ) → needed ≤ length out → count ≡ written os → fin ≡ sets out 0 (resultOf j os) → Answered j out (Written needed count) fin
-      unfolding answerOf outputOf
-      all-written count fin s c w =
-          let q = number-passed j (length out) zero-is in
-          let r : length (result j) ≤ length out = omega (arith, long, s) in
-          let t = le-ltb (length out) (length (result j)) r in (
-            rw (q, t, long, ← p .is, c) refl,
-            rw (q, t) (w ∙ ap (λ (o : List Outcome). sets out 0 (resultOf j o)) (p .is) ∙ sets-front out (result j) r),
-          )
+        pub short-answer : NoRoom needed ≡ answerOf j (length out)
+        short-answer = short .answer
 
-pub ruleset answers = (refused-early, refused-late, no-room, all-written)
+        pub short-output : out ≡ outputOf j out
+        short-output = short .output
+
+      module _ (s : needed ≤ length out) where
+        room : length (result j) ≤ length out
+        room = omega (arith, long, s)
+
+        accepted : numberIn j (length out) ≡ 0
+        accepted = number-passed j (length out) zero-is ∙ rw (le-ltb (length out) (length (result j)) room) refl
+
+        pub written-answer : (count : ℕ) → count ≡ written os → Written needed count ≡ answerOf j (length out)
+        unfolding answerOf
+        written-answer count c = rw (accepted, long, ← p .is, c) refl
+
+        pub written-output : (fin : List ℕ) → fin ≡ sets out 0 (resultOf j os) → fin ≡ outputOf j out
+        unfolding outputOf
+        written-output fin w = rw accepted (w ∙ ap (λ (o : List Outcome). sets out 0 (resultOf j o)) (p .is) ∙ sets-front out (result j) room)
+
+pub ruleset answers = (early-answer, early-output, late-answer, late-output, short-answer, short-output, written-answer, written-output)

@@ -11,7 +11,7 @@ use Rattle.records.specs.Records.{Placed, Counted}
 use Rattle.listing.specs.Job.{Job, job}
 use Rattle.plan.specs.declared.Outcome.{Outcome}
 use Rattle.plan.specs.declared.Outcome.the-variants.{Served, Made}
-use Rattle.plan.specs.Plan.{plan}
+use Rattle.plan.specs.Plan.{plan, Small}
 use Rattle.made.proofs.PlanLaws.{plan-served}
 use Rattle.result.specs.Result.{at, offsetOf}
 use Rattle.result.specs.Refusal.{refusalOf, earlyRefusal, lateRefusal}
@@ -21,7 +21,7 @@ use Rattle.cmap.specs.declared.FateKind.{FateKind}
 use Rattle.cmap.specs.declared.FateKind.the-variants.{WrittenAt, Refused, NoSuchRecord}
 use Rattle.cmap.specs.Fates.{kindOf, noFate, fateOf}
 use Rattle.rooms.specs.Rooms.{Planned}
-use Rattle.rooms.proofs.RoomsLaws.{header}
+use Rattle.rooms.proofs.RoomsLaws.{header, passes, planned}
 use Rattle.cmap.specs.Found.{fateBy, Kinds, Found}
 
 -- ---- by the outcome
@@ -82,13 +82,16 @@ module _ (s cs gs ks ms rs : List ℕ) (os : List Outcome) (p : Planned (job s c
       let t = plan-served (job s cs gs ks ms rs) few k r (ap (λ (o : List Outcome). at o k) (sym (p .is)) ∙ e) in
       omega (arith, t .earlier, t .inside, few)
 
-  pub planned-found : Found s os
+  planned-found : Found s os
   planned-found = record {
     counted = record { is = refl; inside = header s cs gs ks ms rs (p .passing) .fits };
     few = few;
     small = p .small;
     serving = serving;
   }
+
+pub outcomes-found : (s cs gs ks ms rs : List ℕ) (os : List Outcome) (n : ℕ) → os ≡ plan (job s cs gs ks ms rs) → Small os → n ≡ earlyRefusal (job s cs gs ks ms rs) → n ≤ 0 → Found s os
+outcomes-found s cs gs ks ms rs os n e q f h = planned-found s cs gs ks ms rs os (planned s cs gs ks ms rs (passes s cs gs ks ms rs n f h) os e q)
 
 module _ (j : Job) (k : ℕ) where
   pub fate-early : (n : ℕ) (r : Fate) → n ≡ earlyRefusal j → 0 < n → r ≡ noFate (Refused n) → r ≡ fateOf j k
@@ -101,4 +104,4 @@ module _ (j : Job) (k : ℕ) where
   unfolding fateOf fateBy
   fate-planned os r p w = rw (refusal-late j (p .passing .passed), ← p .is) w
 
-pub ruleset fates = (found-long, found-counted, found-few, found-placed, found-kinds, fate-refused, fate-missing, fate-there, fate-early, fate-planned, planned-found)
+pub ruleset fates = (found-long, found-counted, found-few, found-placed, found-kinds, fate-refused, fate-missing, fate-there, fate-early, fate-planned, outcomes-found)

@@ -2,79 +2,58 @@ use Rattle.cmap.proofs.FateLaws.{kinds}
 use borrow.Author.Needs.{needs}
 use Rattle.cmap.proofs.kind_of.Statement.{statement}
 use Rattle.cmap.proofs.kind_of.Tie as tie
-use Rattle.cmap.proofs.kind_of.Reads as reads
-use Rattle.cmap.proofs.kind_of.Lts as lts
-use Rattle.cmap.proofs.written_at.Reads as written-at-reads
 
--- src/lib.rt:345:33
 enum-told : tie.Need-enum-told
 enum-told c = search needs
 
--- src/lib.rt:346:29
 enum-told-2 : tie.Need-enum-told-2
 enum-told-2 c = search needs
 
--- src/lib.rt:347:27
 enum-told-3 : tie.Need-enum-told-3
 enum-told-3 c = search needs
 
--- src/lib.rt:348:29
 enum-told-4 : tie.Need-enum-told-4
 enum-told-4 c = search needs
 
--- src/lib.rt:349:29
 enum-told-5 : tie.Need-enum-told-5
 enum-told-5 c = search needs
 
--- src/lib.rt:350:32
 enum-told-6 : tie.Need-enum-told-6
 enum-told-6 c = search needs
 
--- src/lib.rt:351:25
 enum-known-o : tie.Need-enum-known-o
 enum-known-o c = search needs
 
--- src/lib.rt:351:32
 written-at-requires : tie.Need-written-at-requires
 written-at-requires c κs = (search needs, search kinds)
 
--- src/lib.rt:352:29
 enum-told-7 : tie.Need-enum-told-7
 enum-told-7 c = search needs
 
--- src/lib.rt:352:29
 written-at-requires-2 : tie.Need-written-at-requires-2
 written-at-requires-2 c κs = search needs
 
--- src/lib.rt:340:1
 returns : tie.Need-returns
 returns c = search needs
 
--- src/lib.rt:340:1
 returns-2 : tie.Need-returns-2
 returns-2 c = search needs
 
--- src/lib.rt:340:1
 returns-3 : tie.Need-returns-3
 returns-3 c = search needs
 
--- src/lib.rt:340:1
 returns-4 : tie.Need-returns-4
 returns-4 c = search needs
 
--- src/lib.rt:340:1
 returns-5 : tie.Need-returns-5
 returns-5 c = search needs
 
--- src/lib.rt:340:1
 returns-6 : tie.Need-returns-6
 returns-6 c = search needs
 
--- src/lib.rt:340:1
 returns-7 : tie.Need-returns-7
 returns-7 c = search kinds
 
--- src/lib.rt:340:1
 returns-8 : tie.Need-returns-8
 returns-8 c = search kinds
 

@@ -3,15 +3,11 @@ use Rattle.laws.proofs.ChoiceLaws.{tests}
 use borrow.Author.Needs.{needs}
 use Rattle.rooms.proofs.is_small.Statement.{statement}
 use Rattle.rooms.proofs.is_small.Tie as tie
-use Rattle.rooms.proofs.is_small.Reads as reads
-use Rattle.rooms.proofs.is_small.Lts as lts
 
--- src/lib.rt:137:9
 returns : tie.Need-returns
 unfolding isSmall
 returns c = search (needs, tests)
 
--- src/lib.rt:133:1
 returns-2 : tie.Need-returns-2
 unfolding isSmall
 returns-2 c = search (needs, tests)

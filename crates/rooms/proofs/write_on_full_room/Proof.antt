@@ -2,19 +2,13 @@ use Rattle.rooms.proofs.RoomsLaws.{passing}
 use borrow.Author.Needs.{needs}
 use Rattle.rooms.proofs.write_on_full_room.Statement.{statement}
 use Rattle.rooms.proofs.write_on_full_room.Tie as tie
-use Rattle.rooms.proofs.write_on_full_room.Reads as reads
-use Rattle.rooms.proofs.write_on_full_room.Lts as lts
-use Rattle.writing.proofs.write_result.Reads as write-result-reads
 
--- src/lib.rt:179:5
 write-result-requires : tie.Need-write-result-requires
 write-result-requires c κs = (search passing, search needs)
 
--- src/lib.rt:160:1
 same-length : tie.Need-same-length
 same-length c = search needs
 
--- src/lib.rt:160:1
 returns : tie.Need-returns
 returns c = search needs
 
