@@ -1,9 +1,11 @@
 -- The refusals of a job in their order (docs/01-rules.md, "Numbers of refusal").
 use Prim.Native.Nat.{ℕ}
 use mathlib.Core.List.{List, [], _∷_, _++_}
-use mathlib.Core.Bool.{Bool}
+use mathlib.Core.Bool.{Bool, true}
+use lib.Dec.{ltb}
 use lib.ListN.{length}
-use Rattle.laws.specs.Choice.{pick}
+use Rattle.laws.specs.Choice.{pick, both}
+use Rattle.laws.specs.Select.{anyOf}
 use Rattle.source.specs.Header.{refused5}
 use Rattle.records.specs.Records.{refused6, refused7}
 use Rattle.checks.specs.Checks.{badSizes, badPairs, badKept, badRequested}
@@ -20,17 +22,22 @@ abbrev pub firstOf : List Case → ℕ
 firstOf [] = 0
 firstOf (c ∷ cs) = let r = firstOf cs in pick (c .1) (c .0) r
 
--- of the lists, of the source's header and of the formats that its retained records lead to
-abbrev pub earlyRefusals : Job → List Case
-earlyRefusals j =
+-- of the lists
+abbrev pub listRefusals : Job → List Case
+listRefusals j =
     (1, badSizes (length (j .source)) (length (j .codes)) (length (j .glyphs)) (length (j .kept)) (glyphCount j) (length (j .requested)))
     ∷ (2, badPairs (j .codes) (j .glyphs))
     ∷ (3, badKept (j .kept) (j .codes))
     ∷ (4, badRequested (glyphCount j) (j .requested))
-    ∷ (5, refused5 (j .source))
-    ∷ (6, refused6 (j .source))
-    ∷ (7, refused7 (j .source))
     ∷ []
+
+-- of the source's header and of the formats that its retained records lead to
+abbrev pub sourceRefusals : List ℕ → List Case
+sourceRefusals xs = (5, refused5 xs) ∷ (6, refused6 xs) ∷ (7, refused7 xs) ∷ []
+
+-- of what is lent
+abbrev pub earlyRefusals : Job → List Case
+earlyRefusals j = listRefusals j ++ sourceRefusals (j .source)
 
 -- of what becomes of the records
 abbrev pub lateRefusals : List ℕ → List Outcome → List Case
@@ -42,3 +49,21 @@ refusals j = earlyRefusals j ++ lateRefusals (j .source) (plan j)
 
 unfoldable pub refusalOf : Job → ℕ
 refusalOf j = firstOf (refusals j)
+
+-- the same in two steps, before a plan is made and when it is there
+unfoldable pub earlyRefusal : Job → ℕ
+earlyRefusal j = firstOf (earlyRefusals j)
+
+unfoldable pub lateRefusal : List ℕ → List Outcome → ℕ
+lateRefusal xs os = firstOf (lateRefusals xs os)
+
+-- ---- what the order rests on
+
+-- some condition holds
+unfoldable pub held : List Case → Bool
+held cs = anyOf (λ (c : Case). c .1) cs
+
+-- the numbers rise, from above m
+unfoldable pub rises : ℕ → List Case → Bool
+rises m [] = true
+rises m (c ∷ cs) = both (ltb m (c .0)) (rises (c .0) cs)

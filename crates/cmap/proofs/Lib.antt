@@ -1,0 +1,3 @@
+pub mod AnswerLaws
+pub mod FateLaws
+pub mod ReadBackLaws

@@ -1,0 +1,3 @@
+pub mod Cmap
+pub mod Fates
+pub mod Found

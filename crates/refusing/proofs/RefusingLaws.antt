@@ -1,0 +1,106 @@
+-- What the functions come to test by test, and what a job that refusals 1 to 7 let pass holds to.
+use Prim.Native.Nat.{ℕ, _≤_}
+use mathlib.Core.Path.{_≡_, refl, sym, _∙_}
+use mathlib.Core.List.{List}
+use mathlib.Core.Bool.{Bool, true, false}
+use native.Mathlib.Omega.{arith}
+use lib.ListN.{length}
+use Rattle.laws.specs.Choice.{pick, ifEq}
+use Rattle.laws.specs.Lists.{Rising}
+use Rattle.number.specs.BigEndian.{Bytes}
+use Rattle.source.specs.declared.Header.{Header}
+use Rattle.source.specs.declared.Header.the-variants.{Records, Refused}
+use Rattle.source.specs.Header.{recordCount, refused5, headerOf}
+use Rattle.source.proofs.HeaderLaws.{Accepted, accepted-of, not-refused, tells-records, tells-refused}
+use Rattle.records.specs.Records.{refused6, refused7, Counted}
+use Rattle.checks.specs.Checks.{badSizes, badPairs}
+use Rattle.checks.proofs.SizesLaws.{sizes, codes-rise, kept-rise, kept-low, requested-rise}
+use Rattle.listing.specs.Job.{Job, glyphCount}
+use Rattle.plan.specs.Plan.{Prepared}
+use Rattle.made.specs.Lent.{Lent}
+use Rattle.made.proofs.LentLaws.{lent}
+use Rattle.result.specs.Refusal.{firstOf, listRefusals, sourceRefusals, earlyRefusal, rises}
+use Rattle.result.proofs.RefusalLaws.{first-of, early-passed}
+use Rattle.refusing.specs.Refusing.{listRefusal, sourceRefusal, formatRefusal}
+
+-- ---- cases one after the other: t is the code's own answer for b
+
+module _ (b t : Bool) (n r : ℕ) where
+  pub case-first : t ≡ b → t ≡ true → n ≡ pick b n r
+  case-first q e = rw (← q, e)
+
+  pub case-then : (m : ℕ) → t ≡ b → t ≡ false → m ≡ r → m ≡ pick b n r
+  case-then m q e h = rw (← q, e) h
+
+pub no-case : _≡_ {A = ℕ} 0 0
+no-case = refl
+
+pub ruleset cases = (case-first, case-then, no-case)
+
+-- what an earlier test gives a later one
+pub pairs-rise : (codes glyphs : List ℕ) (t : Bool) → t ≡ badPairs codes glyphs → t ≡ false → Rising codes
+pairs-rise codes glyphs t q e = codes-rise codes glyphs (sym q ∙ e)
+
+module _ (source codes glyphs kept n requested : ℕ) (t : Bool) (q : t ≡ badSizes source codes glyphs kept n requested) (e : t ≡ false) where
+  pub some-glyph-told : 1 ≤ n
+  some-glyph-told = sizes source codes glyphs kept n requested (sym q ∙ e) .some-glyph
+
+  pub few-glyphs-told : n ≤ 65535
+  few-glyphs-told = sizes source codes glyphs kept n requested (sym q ∙ e) .few-glyphs
+
+-- ---- the header
+
+module _ (xs : List ℕ) (h : Header) where
+  pub header-counts : (m : ℕ) → h ≡ headerOf xs → h ≡ Records m → Counted xs m
+  header-counts m q e =
+      let a = tells-records xs (sym q ∙ e) in
+      record { is = a .count; inside = a .fits }
+
+  pub header-refused : h ≡ headerOf xs → h ≡ Refused → 5 ≡ sourceRefusal xs
+  unfolding sourceRefusal
+  header-refused q e = rw (tells-refused xs (sym q ∙ e))
+
+  pub header-passed : (m r : ℕ) → h ≡ headerOf xs → h ≡ Records m → r ≡ formatRefusal xs → r ≡ sourceRefusal xs
+  unfolding sourceRefusal formatRefusal
+  header-passed m r q e f = rw (not-refused xs (tells-records xs (sym q ∙ e))) f
+
+pub ruleset by-header = (header-counts, header-refused, header-passed)
+
+-- ---- lists before the source
+
+pub lists-first : (j : Job) (lists source r : ℕ) → lists ≡ listRefusal j → source ≡ sourceRefusal (j .source) → r ≡ ifEq lists 0 source lists → r ≡ earlyRefusal j
+unfolding listRefusal sourceRefusal earlyRefusal ifEq rises
+lists-first j lists source r a b e = rw (a, b) at e ∙ first-of (listRefusals j) (sourceRefusals (j .source)) refl
+
+-- ---- what a job holds to that they let pass
+
+pub early-lent : (j : Job) → earlyRefusal j ≡ 0 → Bytes (j .source) → Lent j
+early-lent j e b =
+    let p = early-passed j e in
+    lent j b (p .sizes) (p .pairs)
+
+-- where the work room is long enough
+pub early-prepared : (j : Job) (flags others tocodes toglyphs : List ℕ) → earlyRefusal j ≡ 0
+    → length (j .codes) ≤ length flags → length (j .kept) ≤ length flags → length (j .kept) ≤ length others
+    → length (j .codes) ≤ length tocodes → length (j .codes) ≤ length toglyphs
+    → Prepared j (recordCount (j .source)) flags others tocodes toglyphs
+early-prepared j flags others tocodes toglyphs e cf kf ko ct gt =
+    let p = early-passed j e in
+    let s = sizes (length (j .source)) (length (j .codes)) (length (j .glyphs)) (length (j .kept)) (glyphCount j) (length (j .requested)) (p .sizes) in
+    let a = accepted-of (j .source) (p .header) in
+    record {
+      counted = record { is = refl; inside = a .fits };
+      few-records = a .few;
+      glyph-count = omega (arith, s .few-glyphs);
+      codes-rise = codes-rise (j .codes) (j .glyphs) (p .pairs);
+      few-pairs = s .few-pairs;
+      columns = record { even = s .even; codes = ct; glyphs = omega (arith, s .even, gt) };
+      source-small = s .source-short;
+      kept-rises = kept-rise (j .kept) (j .codes) (p .kept);
+      kept-few = s .kept-few;
+      kept-low = record { low = kept-low (j .kept) (j .codes) (p .kept) };
+      requested-rises = requested-rise (glyphCount j) (j .requested) (p .requested);
+      code-flags = cf;
+      kept-flags = kf;
+      kept-others = ko;
+    }

@@ -1,0 +1,106 @@
+-- What refusals 1 to 7 leave for the rest of a call: the header is there, and the work room is enough.
+use Prim.Native.Nat.{ℕ, _≤_, _<_}
+use mathlib.Core.Path.{_≡_, refl, sym, ap, subst, _∙_}
+use mathlib.Core.List.{List}
+use mathlib.Core.Bool.{Bool, true}
+use native.Mathlib.Omega.{arith}
+use lib.Dec.{leb}
+use lib.ListN.{length}
+use borrow.Author.Tests.{leb-true}
+use Rattle.laws.proofs.ChoiceLaws.{both-left, both-right}
+use Rattle.source.specs.Header.{recordCount}
+use Rattle.source.proofs.HeaderLaws.{Accepted, accepted-of}
+use Rattle.records.specs.Records.{Counted}
+use Rattle.checks.proofs.SizesLaws.{Sizes, sizes}
+use Rattle.listing.specs.Job.{Job, job}
+use Rattle.plan.specs.declared.Outcome.{Outcome}
+use Rattle.plan.specs.Plan.{plan, Small, Prepared}
+use Rattle.result.specs.Result.{written}
+use Rattle.result.specs.Refusal.{earlyRefusal}
+use Rattle.result.proofs.RefusalLaws.{early-passed}
+use Rattle.refusing.proofs.RefusingLaws.{early-prepared}
+use Rattle.writing.specs.Writing.{Counts, Planned as Written}
+use Rattle.rooms.specs.Rooms.{isSmall, Passing, Planned}
+
+-- ---- small jobs
+
+module _ (cs ks : List ℕ) (e : isSmall cs ks ≡ true) where
+  small-kept : length ks ≤ 4096
+  unfolding isSmall
+  small-kept = leb-true (length ks) 4096 (both-left (leb (length ks) 4096) (leb (length cs) 2048) e)
+
+  small-pairs : length cs ≤ 2048
+  unfolding isSmall
+  small-pairs = leb-true (length cs) 2048 (both-right (leb (length ks) 4096) (leb (length cs) 2048) e)
+
+module _ (cs ks : List ℕ) (t : Bool) where
+  pub told-small : t ≡ isSmall cs ks → t ≡ true → isSmall cs ks ≡ true
+  told-small q e = sym q ∙ e
+
+-- ---- by the job
+
+module _ (s cs gs ks ms rs : List ℕ) where
+  abbrev j : Job
+  j = job s cs gs ks ms rs
+
+  pub passes : (n : ℕ) → n ≡ earlyRefusal j → n ≤ 0 → Passing j
+  passes n e h = record { passed = omega (arith, e, h) }
+
+  module _ (p : Passing j) where
+    pub header : Accepted s (recordCount s)
+    header = accepted-of s (early-passed j (p .passed) .header)
+
+    limits : Sizes (length s) (length cs) (length gs) (length ks) (length ms) (length rs)
+    limits = sizes (length s) (length cs) (length gs) (length ks) (length ms) (length rs) (early-passed j (p .passed) .sizes)
+
+    pub source-long : 4 ≤ length s
+    source-long = omega (arith, header .fits)
+
+    pub planned : (os : List Outcome) → os ≡ plan j → Small os → Planned j os
+    planned os e q = record { passing = p; is = e; small = q }
+
+    module _ (m : ℕ) (e : m ≡ recordCount s) (flags others tocodes toglyphs : List ℕ) where
+      pub full-room : length flags ≡ 131072 → length others ≡ 131072 → length tocodes ≡ 65535 → length toglyphs ≡ 65535 → Prepared j m flags others tocodes toglyphs
+      full-room f o c g =
+          let l = limits in
+          rw e (early-prepared j flags others tocodes toglyphs (p .passed) (omega (arith, f, l .few-pairs)) (omega (arith, f, l .kept-few)) (omega (arith, o, l .kept-few))
+          (omega (arith, c, l .few-pairs)) (omega (arith, g, l .few-pairs)))
+
+      pub small-room : isSmall cs ks ≡ true → length flags ≡ 4096 → length others ≡ 4096 → length tocodes ≡ 2048 → length toglyphs ≡ 2048 → Prepared j m flags others tocodes toglyphs
+      small-room q f o c g =
+          rw e (early-prepared j flags others tocodes toglyphs (p .passed) (omega (arith, f, small-pairs cs ks q)) (omega (arith, f, small-kept cs ks q)) (omega (arith, o, small-kept cs ks q))
+          (omega (arith, c, small-pairs cs ks q)) (omega (arith, g, small-pairs cs ks q)))
+
+  module _ (os : List Outcome) (p : Planned j os) where
+    pub planned-long : 4 ≤ length s
+    planned-long = source-long (p .passing)
+
+    pub planned-counted : (m : ℕ) → m ≡ recordCount s → Counted s m
+    planned-counted m e = record { is = e; inside = omega (arith, e, header (p .passing) .fits) }
+
+    pub planned-few : (m : ℕ) → m ≡ recordCount s → m ≤ 64
+    planned-few m e = omega (arith, e, header (p .passing) .few)
+
+    pub planned-counts : (count : ℕ) → count ≡ written os → count ≤ 64 → Counts os count
+    planned-counts count e h = record { small = p .small; is = e; few = h }
+
+    module _ (count : ℕ) (c : Counts os count) (flags tocodes toglyphs : List ℕ) where
+      pub full-writing : length flags ≡ 131072 → length tocodes ≡ 65535 → length toglyphs ≡ 65535 → Written j os count flags tocodes toglyphs
+      full-writing f t g = record {
+        m = recordCount s;
+        others = flags;
+        prepared = full-room (p .passing) (recordCount s) refl flags flags tocodes toglyphs f f t g;
+        is = p .is;
+        counts = c;
+      }
+
+      pub small-writing : isSmall cs ks ≡ true → length flags ≡ 4096 → length tocodes ≡ 2048 → length toglyphs ≡ 2048 → Written j os count flags tocodes toglyphs
+      small-writing q f t g = record {
+        m = recordCount s;
+        others = flags;
+        prepared = small-room (p .passing) (recordCount s) refl flags flags tocodes toglyphs q f f t g;
+        is = p .is;
+        counts = c;
+      }
+
+pub ruleset passing = (told-small, passes, source-long, planned, full-room, small-room, planned-long, planned-counted, planned-few, planned-counts, full-writing, small-writing)

@@ -1,0 +1,37 @@
+use Rattle.rooms.proofs.RoomsLaws.{passing}
+use borrow.Author.Needs.{needs}
+use Rattle.rooms.proofs.write_result.Statement.{statement}
+use Rattle.rooms.proofs.write_result.Tie as tie
+
+is-small-requires : tie.Need-is-small-requires
+is-small-requires c κs = search needs
+
+write-in-small-room-requires : tie.Need-write-in-small-room-requires
+write-in-small-room-requires c κs = (search needs, (search needs, (search needs, search passing)))
+
+same-length : tie.Need-same-length
+same-length c = search needs
+
+returns : tie.Need-returns
+returns c = search needs
+
+write-in-full-room-requires : tie.Need-write-in-full-room-requires
+write-in-full-room-requires c κs = search needs
+
+same-length-2 : tie.Need-same-length-2
+same-length-2 c = search needs
+
+returns-2 : tie.Need-returns-2
+returns-2 c = search needs
+
+pub write-result-spec : {M : Type 1} → statement M
+write-result-spec =
+    tie.close
+    (tie.spec
+    is-small-requires
+    write-in-small-room-requires
+    same-length
+    returns
+    write-in-full-room-requires
+    same-length-2
+    returns-2)

@@ -1,0 +1,342 @@
+// The plan of a job and its result, made in work room of their own.
+use number::limits::KEPT_MAX;
+use number::limits::PAIRS_MAX;
+use plan::Outcome;
+ghost use mathlib.Core.Path.{_≡_};
+ghost use mathlib.Core.Bool.{true};
+ghost use Prim.Native.Nat.{_≤_};
+ghost use lib.ListN.{length};
+ghost use lib.Seq.{sets};
+ghost use Rattle.source.specs.Header.{recordCount};
+ghost use Rattle.listing.specs.Job.{job};
+ghost use Rattle.plan.specs.Plan.{plan, Small};
+ghost use Rattle.result.specs.Result.{resultLength, resultOf};
+ghost use Rattle.writing.specs.Writing.{Counts};
+ghost use Rattle.rooms.specs.Rooms.{isSmall, Passing, Planned};
+
+// Work room that is enough for most jobs, and cleared in no time.
+const SMALL_KEPT: usize = 4096;
+
+const SMALL_PAIRS: usize = 2048;
+
+pub fn record_count(s: &[u8]) -> usize
+    requires { ⌜ 4 ≤ length (now s) ⌝ }
+    ensures { λ r. ⌜ r ≡ recordCount (now (s .entry)) ⌝ }
+{
+    number::u16_at(s, 2) as usize
+}
+
+fn plan_on_full_room(
+    s: &[u8],
+    codes: &[u32],
+    glyphs: &[u16],
+    kept: &[u32],
+    map: &[u16],
+    requested: &[u16],
+    flags: &mut [u8; KEPT_MAX],
+    others: &mut [u8; KEPT_MAX],
+    tocodes: &mut [u32; PAIRS_MAX],
+    toglyphs: &mut [u16; PAIRS_MAX],
+) -> [Outcome; 64]
+    requires { ⌜ Passing (job (now s) (now codes) (now glyphs) (now kept) (now map) (now requested)) ⌝ }
+    ensures { λ r. ⌜ (r ≡ plan (job (now (s .entry)) (now (codes .entry)) (now (glyphs .entry)) (now (kept .entry)) (now (map .entry)) (now (requested .entry)))) × Small r ⌝ }
+{
+    let m = record_count(s);
+    plan::plan(
+        s,
+        m,
+        codes,
+        glyphs,
+        kept,
+        map,
+        requested,
+        flags,
+        others,
+        tocodes,
+        toglyphs,
+    )
+}
+
+fn plan_in_full_room(
+    s: &[u8],
+    codes: &[u32],
+    glyphs: &[u16],
+    kept: &[u32],
+    map: &[u16],
+    requested: &[u16],
+) -> [Outcome; 64]
+    requires { ⌜ Passing (job (now s) (now codes) (now glyphs) (now kept) (now map) (now requested)) ⌝ }
+    ensures { λ r. ⌜ (r ≡ plan (job (now (s .entry)) (now (codes .entry)) (now (glyphs .entry)) (now (kept .entry)) (now (map .entry)) (now (requested .entry)))) × Small r ⌝ }
+{
+    let mut flags = [0u8; KEPT_MAX];
+    let mut others = [0u8; KEPT_MAX];
+    let mut tocodes = [0u32; PAIRS_MAX];
+    let mut toglyphs = [0u16; PAIRS_MAX];
+    plan_on_full_room(
+        s,
+        codes,
+        glyphs,
+        kept,
+        map,
+        requested,
+        &mut flags,
+        &mut others,
+        &mut tocodes,
+        &mut toglyphs,
+    )
+}
+
+fn plan_on_small_room(
+    s: &[u8],
+    codes: &[u32],
+    glyphs: &[u16],
+    kept: &[u32],
+    map: &[u16],
+    requested: &[u16],
+    flags: &mut [u8; SMALL_KEPT],
+    others: &mut [u8; SMALL_KEPT],
+    tocodes: &mut [u32; SMALL_PAIRS],
+    toglyphs: &mut [u16; SMALL_PAIRS],
+) -> [Outcome; 64]
+    requires { ⌜ Passing (job (now s) (now codes) (now glyphs) (now kept) (now map) (now requested)) ⌝ }
+    requires { ⌜ isSmall (now codes) (now kept) ≡ true ⌝ }
+    ensures { λ r. ⌜ (r ≡ plan (job (now (s .entry)) (now (codes .entry)) (now (glyphs .entry)) (now (kept .entry)) (now (map .entry)) (now (requested .entry)))) × Small r ⌝ }
+{
+    let m = record_count(s);
+    plan::plan(
+        s,
+        m,
+        codes,
+        glyphs,
+        kept,
+        map,
+        requested,
+        flags,
+        others,
+        tocodes,
+        toglyphs,
+    )
+}
+
+fn plan_in_small_room(
+    s: &[u8],
+    codes: &[u32],
+    glyphs: &[u16],
+    kept: &[u32],
+    map: &[u16],
+    requested: &[u16],
+) -> [Outcome; 64]
+    requires { ⌜ Passing (job (now s) (now codes) (now glyphs) (now kept) (now map) (now requested)) ⌝ }
+    requires { ⌜ isSmall (now codes) (now kept) ≡ true ⌝ }
+    ensures { λ r. ⌜ (r ≡ plan (job (now (s .entry)) (now (codes .entry)) (now (glyphs .entry)) (now (kept .entry)) (now (map .entry)) (now (requested .entry)))) × Small r ⌝ }
+{
+    let mut flags = [0u8; SMALL_KEPT];
+    let mut others = [0u8; SMALL_KEPT];
+    let mut tocodes = [0u32; SMALL_PAIRS];
+    let mut toglyphs = [0u16; SMALL_PAIRS];
+    plan_on_small_room(
+        s,
+        codes,
+        glyphs,
+        kept,
+        map,
+        requested,
+        &mut flags,
+        &mut others,
+        &mut tocodes,
+        &mut toglyphs,
+    )
+}
+
+fn is_small(codes: &[u32], kept: &[u32]) -> bool
+    ensures { λ r. ⌜ r ≡ isSmall (now (codes .entry)) (now (kept .entry)) ⌝ }
+{
+    if kept.len() <= SMALL_KEPT {
+        return codes.len() <= SMALL_PAIRS;
+    }
+    false
+}
+
+// What becomes of the records.
+pub fn outcomes(
+    s: &[u8],
+    codes: &[u32],
+    glyphs: &[u16],
+    kept: &[u32],
+    map: &[u16],
+    requested: &[u16],
+) -> [Outcome; 64]
+    requires { ⌜ Passing (job (now s) (now codes) (now glyphs) (now kept) (now map) (now requested)) ⌝ }
+    ensures { λ r. ⌜ (r ≡ plan (job (now (s .entry)) (now (codes .entry)) (now (glyphs .entry)) (now (kept .entry)) (now (map .entry)) (now (requested .entry)))) × Small r ⌝ }
+{
+    if is_small(codes, kept) {
+        return plan_in_small_room(s, codes, glyphs, kept, map, requested);
+    }
+    plan_in_full_room(s, codes, glyphs, kept, map, requested)
+}
+
+fn write_on_full_room(
+    out: &mut [u8],
+    s: &[u8],
+    codes: &[u32],
+    glyphs: &[u16],
+    kept: &[u32],
+    map: &[u16],
+    requested: &[u16],
+    flags: &mut [u8; KEPT_MAX],
+    tocodes: &mut [u32; PAIRS_MAX],
+    toglyphs: &mut [u16; PAIRS_MAX],
+    os: [Outcome; 64],
+    count: usize,
+)
+    requires { ⌜ Planned (job (now s) (now codes) (now glyphs) (now kept) (now map) (now requested)) os ⌝ }
+    requires { ⌜ Counts os count ⌝ }
+    requires { ⌜ resultLength os ≤ length (now out) ⌝ }
+    ensures { λ _. ⌜ now (out .exit) ≡ sets (now (out .entry)) 0 (resultOf (job (now (s .entry)) (now (codes .entry)) (now (glyphs .entry)) (now (kept .entry)) (now (map .entry)) (now (requested .entry))) os) ⌝ }
+{
+    writing::write_result(
+        out,
+        s,
+        codes,
+        glyphs,
+        kept,
+        map,
+        requested,
+        flags,
+        tocodes,
+        toglyphs,
+        os,
+        count,
+    )
+}
+
+fn write_in_full_room(
+    out: &mut [u8],
+    s: &[u8],
+    codes: &[u32],
+    glyphs: &[u16],
+    kept: &[u32],
+    map: &[u16],
+    requested: &[u16],
+    os: [Outcome; 64],
+    count: usize,
+)
+    requires { ⌜ Planned (job (now s) (now codes) (now glyphs) (now kept) (now map) (now requested)) os ⌝ }
+    requires { ⌜ Counts os count ⌝ }
+    requires { ⌜ resultLength os ≤ length (now out) ⌝ }
+    ensures { λ _. ⌜ now (out .exit) ≡ sets (now (out .entry)) 0 (resultOf (job (now (s .entry)) (now (codes .entry)) (now (glyphs .entry)) (now (kept .entry)) (now (map .entry)) (now (requested .entry))) os) ⌝ }
+{
+    let mut flags = [0u8; KEPT_MAX];
+    let mut tocodes = [0u32; PAIRS_MAX];
+    let mut toglyphs = [0u16; PAIRS_MAX];
+    write_on_full_room(
+        out,
+        s,
+        codes,
+        glyphs,
+        kept,
+        map,
+        requested,
+        &mut flags,
+        &mut tocodes,
+        &mut toglyphs,
+        os,
+        count,
+    )
+}
+
+fn write_on_small_room(
+    out: &mut [u8],
+    s: &[u8],
+    codes: &[u32],
+    glyphs: &[u16],
+    kept: &[u32],
+    map: &[u16],
+    requested: &[u16],
+    flags: &mut [u8; SMALL_KEPT],
+    tocodes: &mut [u32; SMALL_PAIRS],
+    toglyphs: &mut [u16; SMALL_PAIRS],
+    os: [Outcome; 64],
+    count: usize,
+)
+    requires { ⌜ Planned (job (now s) (now codes) (now glyphs) (now kept) (now map) (now requested)) os ⌝ }
+    requires { ⌜ Counts os count ⌝ }
+    requires { ⌜ resultLength os ≤ length (now out) ⌝ }
+    requires { ⌜ isSmall (now codes) (now kept) ≡ true ⌝ }
+    ensures { λ _. ⌜ now (out .exit) ≡ sets (now (out .entry)) 0 (resultOf (job (now (s .entry)) (now (codes .entry)) (now (glyphs .entry)) (now (kept .entry)) (now (map .entry)) (now (requested .entry))) os) ⌝ }
+{
+    writing::write_result(
+        out,
+        s,
+        codes,
+        glyphs,
+        kept,
+        map,
+        requested,
+        flags,
+        tocodes,
+        toglyphs,
+        os,
+        count,
+    )
+}
+
+fn write_in_small_room(
+    out: &mut [u8],
+    s: &[u8],
+    codes: &[u32],
+    glyphs: &[u16],
+    kept: &[u32],
+    map: &[u16],
+    requested: &[u16],
+    os: [Outcome; 64],
+    count: usize,
+)
+    requires { ⌜ Planned (job (now s) (now codes) (now glyphs) (now kept) (now map) (now requested)) os ⌝ }
+    requires { ⌜ Counts os count ⌝ }
+    requires { ⌜ resultLength os ≤ length (now out) ⌝ }
+    requires { ⌜ isSmall (now codes) (now kept) ≡ true ⌝ }
+    ensures { λ _. ⌜ now (out .exit) ≡ sets (now (out .entry)) 0 (resultOf (job (now (s .entry)) (now (codes .entry)) (now (glyphs .entry)) (now (kept .entry)) (now (map .entry)) (now (requested .entry))) os) ⌝ }
+{
+    let mut flags = [0u8; SMALL_KEPT];
+    let mut tocodes = [0u32; SMALL_PAIRS];
+    let mut toglyphs = [0u16; SMALL_PAIRS];
+    write_on_small_room(
+        out,
+        s,
+        codes,
+        glyphs,
+        kept,
+        map,
+        requested,
+        &mut flags,
+        &mut tocodes,
+        &mut toglyphs,
+        os,
+        count,
+    )
+}
+
+// Writes the result that the outcomes make.
+pub fn write_result(
+    out: &mut [u8],
+    s: &[u8],
+    codes: &[u32],
+    glyphs: &[u16],
+    kept: &[u32],
+    map: &[u16],
+    requested: &[u16],
+    os: [Outcome; 64],
+    count: usize,
+)
+    requires { ⌜ Planned (job (now s) (now codes) (now glyphs) (now kept) (now map) (now requested)) os ⌝ }
+    requires { ⌜ Counts os count ⌝ }
+    requires { ⌜ resultLength os ≤ length (now out) ⌝ }
+    ensures { λ _. ⌜ now (out .exit) ≡ sets (now (out .entry)) 0 (resultOf (job (now (s .entry)) (now (codes .entry)) (now (glyphs .entry)) (now (kept .entry)) (now (map .entry)) (now (requested .entry))) os) ⌝ }
+{
+    if is_small(codes, kept) {
+        write_in_small_room(out, s, codes, glyphs, kept, map, requested, os, count);
+        return;
+    }
+    write_in_full_room(out, s, codes, glyphs, kept, map, requested, os, count);
+}

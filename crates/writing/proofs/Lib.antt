@@ -1,0 +1,6 @@
+pub mod LengthLaws
+pub mod PlannedLaws
+pub mod RecordsLaws
+pub mod TableLaws
+pub mod TablesLaws
+pub mod WholeLaws

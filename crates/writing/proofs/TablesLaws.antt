@@ -1,0 +1,116 @@
+-- Tables are written from the last record's on: what is left of them, written from here, gives them all.
+use Prim.Native.Nat.{ℕ, suc, _+_, _*_, _-_, _<_, _≤_}
+use mathlib.Core.Path.{_≡_, refl, sym, ap, _∙_}
+use mathlib.Core.List.{List}
+use mathlib.Core.Bool.{Bool, true, false}
+use native.Mathlib.Nat.{zero-add}
+use native.Mathlib.Omega.{arith}
+use lib.ListN.{length, getD}
+use lib.Seq.{sets, length-sets}
+use Rattle.laws.specs.Choice.{pick}
+use Rattle.laws.proofs.SetsLaws.{sets-append}
+use Rattle.listing.specs.Job.{Job}
+use Rattle.plan.specs.declared.Outcome.{Outcome}
+use Rattle.plan.specs.declared.Outcome.the-variants.{NotRetained}
+use Rattle.plan.specs.Plan.{tableOf, isMade, sizeOf, Ready}
+use Rattle.result.specs.Result.{at, sizesFrom, tablesStart, tablesBelow, resultLength}
+use Rattle.result.proofs.CountLaws.{sizes-snoc}
+use Rattle.result.proofs.PlacesLaws.{not-made}
+use Rattle.writing.specs.Writing.{Room, Planned}
+use Rattle.writing.proofs.LengthLaws.{size-made}
+use Rattle.writing.proofs.PlannedLaws.{planned-again, ready-of, making-of, lengths}
+
+-- the tables of the records from k on stand before `place`
+pub record Tabling (j : Job) (os : List Outcome) (count : ℕ) (out₀ fs₀ tocs₀ togs₀ out fs tocs togs : List ℕ) (place k : ℕ) : Type 0 where
+  pub within : k ≤ 64
+  pub planned : Planned j os count fs tocs togs
+  pub low : place + 4294967296 * k ≤ 516 + 64 * 4294967296
+  pub room : place + sizesFrom os k 0 ≤ length out
+  pub same : length out ≡ length out₀
+  pub flags : length fs ≡ length fs₀
+  pub codes : length tocs ≡ length tocs₀
+  pub glyphs : length togs ≡ length togs₀
+  pub left : sets out place (tablesBelow j os k) ≡ sets out₀ (tablesStart os) (tablesBelow j os 64)
+
+pub tabling-start : (j : Job) (os : List Outcome) (count : ℕ) (out fs tocs togs : List ℕ) → Planned j os count fs tocs togs → resultLength os ≤ length out
+    → Tabling j os count out fs tocs togs out fs tocs togs (4 + 8 * count) 64
+tabling-start j os count out fs tocs togs p h = record {
+  within = omega arith;
+  planned = p;
+  low = omega (arith, p .counts .few);
+  room = omega (arith, p .counts .is);
+  same = refl;
+  flags = refl;
+  codes = refl;
+  glyphs = refl;
+  left = ap (λ (n : ℕ). sets out (4 + 8 * n) (tablesBelow j os 64)) (p .counts .is);
+}
+
+module _ (j : Job) (os : List Outcome) (count : ℕ) (out₀ fs₀ tocs₀ togs₀ out fs tocs togs : List ℕ) (place k : ℕ)
+    (l : Tabling j os count out₀ fs₀ tocs₀ togs₀ out fs tocs togs place k) where
+  pub tabling-end : k ≤ 0 → out ≡ sets out₀ (tablesStart os) (tablesBelow j os 64)
+  unfolding tablesBelow
+  tabling-end h =
+      let z : k ≡ 0 = omega arith in
+      rw z at (l .left)
+
+  module _ (t : Bool) (h : 0 < k) (q : t ≡ isMade (getD os (k - 1) NotRetained)) where
+    down : k ≡ suc (k - 1)
+    down = omega arith
+
+    sizes-down : sizesFrom os k 0 ≡ sizesFrom os (k - 1) 0 + sizeOf (at os (k - 1))
+    sizes-down = ap (λ (n : ℕ). sizesFrom os n 0) down ∙ rw (zero-add (k - 1)) at (sizes-snoc os (k - 1) 0)
+
+    pub tabling-no : t ≡ false → Tabling j os count out₀ fs₀ tocs₀ togs₀ out fs tocs togs place (k - 1)
+    unfolding tablesBelow
+    tabling-no e =
+        record {
+          within = omega (arith, l .within);
+          planned = l .planned;
+          low = omega (arith, l .low);
+          room = omega (arith, l .room, sizes-down, not-made (at os (k - 1)) (sym q ∙ e));
+          same = l .same;
+          flags = l .flags;
+          codes = l .codes;
+          glyphs = l .glyphs;
+          left = rw (← q, e) at (ap (λ (n : ℕ). sets out place (tablesBelow j os n)) (sym down) ∙ l .left);
+        }
+
+    module _ (e : t ≡ true) where
+      pub tabling-ready : Ready j (k - 1) fs tocs togs
+      tabling-ready = ready-of j os count fs tocs togs (l .planned) (k - 1) (making-of j os count fs tocs togs (l .planned) (k - 1) (sym q ∙ e) .inside)
+
+      pub tabling-room : Room j (k - 1) place (length out)
+      tabling-room = record {
+        size = sizeOf (at os (k - 1));
+        is = making-of j os count fs tocs togs (l .planned) (k - 1) (sym q ∙ e) .is;
+        fits = omega (arith, l .room, sizes-down);
+      }
+
+      pub tabling-yes : (next fs′ tocs′ togs′ : List ℕ) (size : ℕ) → next ≡ sets out place (tableOf j (k - 1)) → size ≡ sizeOf (getD os (k - 1) NotRetained)
+          → length fs′ ≡ length fs → length tocs′ ≡ length tocs → length togs′ ≡ length togs
+          → Tabling j os count out₀ fs₀ tocs₀ togs₀ next fs′ tocs′ togs′ (place + size) (k - 1)
+      unfolding tablesBelow
+      tabling-yes next fs′ tocs′ togs′ size w s a b c =
+          let table = tableOf j (k - 1) in
+          let rest = tablesBelow j os (k - 1) in
+          let long : length next ≡ length out = rw w (length-sets out place table) in
+          let whole : size ≡ length table = s ∙ size-made j os (lengths j os count fs tocs togs (l .planned)) (k - 1) (sym q ∙ e) in
+          record {
+            within = omega (arith, l .within);
+            low = omega (arith, l .low, s, l .planned .counts .small .each (k - 1) .below);
+            planned = planned-again j os count fs tocs togs (l .planned) fs′ tocs′ togs′ a b c;
+            room = omega (arith, l .room, sizes-down, long);
+            same = long ∙ l .same;
+            flags = a ∙ l .flags;
+            codes = b ∙ l .codes;
+            glyphs = c ∙ l .glyphs;
+            left = rw (w, whole) (sets-append out place table rest ∙ rw (← q, e) at (ap (λ (n : ℕ). sets out place (tablesBelow j os n)) (sym down) ∙ l .left));
+          }
+
+pub ruleset tabling = (tabling-start, tabling-end, tabling-no, tabling-ready, tabling-room, tabling-yes)
+
+-- the next place is a number of 64 bits
+pub tabling-low : {j : Job} {os : List Outcome} {count : ℕ} {out₀ fs₀ tocs₀ togs₀ out fs tocs togs : List ℕ} {place k size : ℕ}
+    → Tabling j os count out₀ fs₀ tocs₀ togs₀ out fs tocs togs place k → 0 < k → size ≡ sizeOf (getD os (k - 1) NotRetained) → place + size ≤ 516 + 64 * 4294967296
+tabling-low {k = k} l h s = omega (arith, l .low, s, l .planned .counts .small .each (k - 1) .below)

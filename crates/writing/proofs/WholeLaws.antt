@@ -1,0 +1,65 @@
+-- Header, records and tables, one behind the other, are the result.
+use Prim.Native.Nat.{ℕ, _+_, _*_, _≤_}
+use mathlib.Core.Path.{_≡_, refl, sym, ap, _∙_}
+use mathlib.Core.List.{List, _++_}
+use native.Mathlib.Omega.{arith}
+use lib.ListN.{length, drop}
+use lib.Seq.{sets, sets-eq}
+use Rattle.laws.proofs.SetsLaws.{sets-append}
+use Rattle.number.specs.BigEndian.{enc, put}
+use Rattle.number.proofs.BigEndianLaws.{length-enc}
+use Rattle.listing.specs.Job.{Job, job}
+use Rattle.plan.specs.declared.Outcome.{Outcome}
+use Rattle.result.specs.Result.{written, tablesStart, recordsFrom, tablesBelow, resultOf, resultLength}
+use Rattle.writing.specs.Writing.{sourced, Counts, Laid, Planned}
+use Rattle.writing.proofs.LengthLaws.{length-records}
+use Rattle.writing.proofs.PlannedLaws.{laid, planned-length}
+use Rattle.writing.proofs.RecordsLaws.{records-sourced}
+
+pub header-is : (out mid fin : List ℕ) (count : ℕ) → mid ≡ put 2 out 0 0 → fin ≡ put 2 mid 2 count → fin ≡ sets out 0 (enc 2 0 ++ enc 2 count)
+unfolding put
+header-is out mid fin count a b = rw (b, a, ← sets-append out 0 (enc 2 0) (enc 2 count), length-enc 2 0)
+
+module _ (xs cs gs kept map requested : List ℕ) (os : List Outcome) (count : ℕ) (fs tocs togs : List ℕ) where
+  abbrev j : Job
+  j = job xs cs gs kept map requested
+
+  module _ (p : Planned j os count fs tocs togs) where
+    pub planned-laid : Laid xs os count
+    planned-laid = laid j os count fs tocs togs p
+
+    pub records-room : (out next : List ℕ) → resultLength os ≤ length out → length next ≡ length out → 4 + 8 * count ≤ length next
+    records-room out next h e = omega (arith, p .counts .is)
+
+    pub whole-is : (out one two fin : List ℕ) → one ≡ sets out 0 (enc 2 0 ++ enc 2 count) → two ≡ sets one 4 (recordsFrom (sourced xs) os 64 0)
+        → fin ≡ sets two (tablesStart os) (tablesBelow j os 64) → fin ≡ sets out 0 (resultOf j os)
+    unfolding resultOf
+    whole-is out one two fin a b c =
+        let records = recordsFrom j os 64 0 in
+        let tables = tablesBelow j os 64 in
+        let count-is : count ≡ written os = p .counts .is in
+        let far : tablesStart os ≡ 4 + length records = ap (λ (n : ℕ). 4 + n) (sym (length-records j os 64 0)) in
+        rw (
+          c,
+          far,
+          b,
+          ← records-sourced j os 64 0,
+          sets-append one 4 records tables,
+          a,
+          count-is,
+          ← sets-append out 0 (enc 2 0) (enc 2 (written os)),
+          ← sets-append out 0 (enc 2 0) (enc 2 (written os) ++ (records ++ tables)),
+          length-enc 2 0,
+          ← sets-append (sets out 0 (enc 2 0)) 2 (enc 2 (written os)) (records ++ tables),
+          length-enc 2 (written os),
+        )
+
+pub ruleset whole = (planned-laid, records-room, whole-is)
+
+-- what was written stands first, and the output's rest behind it
+pub result-first : (j : Job) (os : List Outcome) (count : ℕ) (fs tocs togs out fin : List ℕ) → Planned j os count fs tocs togs → resultLength os ≤ length out
+    → fin ≡ sets out 0 (resultOf j os) → fin ≡ resultOf j os ++ drop (length (resultOf j os)) out
+result-first j os count fs tocs togs out fin p h e =
+    let z : 0 + length (resultOf j os) ≡ length (resultOf j os) = omega arith in
+    let long = planned-length j os count fs tocs togs p in
+    e ∙ sets-eq (resultOf j os) out 0 (omega (arith, long)) ∙ rw z

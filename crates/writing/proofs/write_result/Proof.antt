@@ -1,0 +1,41 @@
+use Rattle.writing.proofs.WholeLaws.{whole}
+use borrow.Author.Needs.{needs}
+use Rattle.writing.proofs.write_result.Statement.{statement}
+use Rattle.writing.proofs.write_result.Tie as tie
+
+put-header-requires : tie.Need-put-header-requires
+put-header-requires c κs = search needs
+
+put-records-requires : tie.Need-put-records-requires
+put-records-requires c κs = (search whole, search whole)
+
+write-tables-requires : tie.Need-write-tables-requires
+write-tables-requires c κs = search needs
+
+same-length : tie.Need-same-length
+same-length c = search needs
+
+same-length-2 : tie.Need-same-length-2
+same-length-2 c = search needs
+
+same-length-3 : tie.Need-same-length-3
+same-length-3 c = search needs
+
+same-length-4 : tie.Need-same-length-4
+same-length-4 c = search needs
+
+returns : tie.Need-returns
+returns c = search whole
+
+pub write-result-spec : {M : Type 1} → statement M
+write-result-spec =
+    tie.close
+    (tie.spec
+    put-header-requires
+    put-records-requires
+    write-tables-requires
+    same-length
+    same-length-2
+    same-length-3
+    same-length-4
+    returns)
