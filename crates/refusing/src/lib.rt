@@ -21,7 +21,14 @@ fn list_refusal(
     ensures { λ r. ⌜ r ≡ listRefusal (job (now (s .entry)) (now (codes .entry)) (now (glyphs .entry)) (now (kept .entry)) (now (map .entry)) (now (requested .entry))) ⌝ }
 {
     let n = map.len();
-    if checks::bad_sizes(s.len(), codes.len(), glyphs.len(), kept.len(), n, requested.len()) {
+    if checks::bad_sizes(
+        s.len(),
+        codes.len(),
+        glyphs.len(),
+        kept.len(),
+        n,
+        requested.len(),
+    ) {
         return 1;
     }
     if checks::bad_pairs(codes, glyphs) {

@@ -2,14 +2,10 @@ use borrow.Author.Needs.{needs}
 use Rattle.laws.proofs.ChoiceLaws.{choices}
 use Rattle.refusing.proofs.first_of.Statement.{statement}
 use Rattle.refusing.proofs.first_of.Tie as tie
-use Rattle.refusing.proofs.first_of.Reads as reads
-use Rattle.refusing.proofs.first_of.Lts as lts
 
--- src/lib.rt:69:9
 returns : tie.Need-returns
 returns c = search (needs, choices)
 
--- src/lib.rt:65:1
 returns-2 : tie.Need-returns-2
 returns-2 c = search (needs, choices)
 

@@ -3,50 +3,35 @@ use Rattle.refusing.proofs.RefusingLaws.{cases, pairs-rise, some-glyph-
 use borrow.Author.Needs.{needs}
 use Rattle.refusing.proofs.list_refusal.Statement.{statement}
 use Rattle.refusing.proofs.list_refusal.Tie as tie
-use Rattle.refusing.proofs.list_refusal.Reads as reads
-use Rattle.refusing.proofs.list_refusal.Lts as lts
-use Rattle.checks.proofs.bad_kept.Reads as bad-kept-reads
-use Rattle.checks.proofs.bad_pairs.Reads as bad-pairs-reads
-use Rattle.checks.proofs.bad_requested.Reads as bad-requested-reads
-use Rattle.checks.proofs.bad_sizes.Reads as bad-sizes-reads
 
--- src/lib.rt:25:8
 bad-sizes-requires : tie.Need-bad-sizes-requires
 bad-sizes-requires c κs = search needs
 
--- src/lib.rt:26:9
 returns : tie.Need-returns
 unfolding listRefusal
 returns c = search cases
 
--- src/lib.rt:28:8
 bad-pairs-requires : tie.Need-bad-pairs-requires
 bad-pairs-requires c κs = search needs
 
--- src/lib.rt:29:9
 returns-2 : tie.Need-returns-2
 unfolding listRefusal
 returns-2 c = search cases
 
--- src/lib.rt:31:8
 bad-kept-requires : tie.Need-bad-kept-requires
 bad-kept-requires c κs = search pairs-rise
 
--- src/lib.rt:32:9
 returns-3 : tie.Need-returns-3
 unfolding listRefusal
 returns-3 c = search cases
 
--- src/lib.rt:34:8
 bad-requested-requires : tie.Need-bad-requested-requires
 bad-requested-requires c κs = (search some-glyph-told, search few-glyphs-told)
 
--- src/lib.rt:35:9
 returns-4 : tie.Need-returns-4
 unfolding listRefusal
 returns-4 c = search cases
 
--- src/lib.rt:14:1
 returns-5 : tie.Need-returns-5
 unfolding listRefusal
 returns-5 c = search cases
