@@ -10,16 +10,16 @@ use Rattle.laws.specs.Lists.{Rising}
 use Rattle.number.specs.BigEndian.{Bytes}
 use Rattle.source.specs.declared.Header.{Header}
 use Rattle.source.specs.declared.Header.the-variants.{Records, Refused}
-use Rattle.source.specs.Header.{recordCount, refused5, headerOf}
-use Rattle.source.proofs.HeaderLaws.{Accepted, accepted-of, not-refused, tells-records, tells-refused}
-use Rattle.records.specs.Records.{refused6, refused7, Counted}
+use Rattle.source.specs.Header.{recordCount, headerOf}
+use Rattle.source.proofs.HeaderLaws.{accepted-of, not-refused, tells-records, tells-refused}
+use Rattle.records.specs.Records.{Counted}
 use Rattle.checks.specs.Checks.{badSizes, badPairs}
 use Rattle.checks.proofs.SizesLaws.{sizes, codes-rise, kept-rise, kept-low, requested-rise}
 use Rattle.listing.specs.Job.{Job, glyphCount}
 use Rattle.plan.specs.Plan.{Prepared}
 use Rattle.made.specs.Lent.{Lent}
 use Rattle.made.proofs.LentLaws.{lent}
-use Rattle.result.specs.Refusal.{firstOf, listRefusals, sourceRefusals, earlyRefusal, rises}
+use Rattle.result.specs.Refusal.{listRefusals, sourceRefusals, earlyRefusal, rises}
 use Rattle.result.proofs.RefusalLaws.{first-of, early-passed}
 use Rattle.refusing.specs.Refusing.{listRefusal, sourceRefusal, formatRefusal}
 

@@ -1,6 +1,6 @@
 -- Each refusal is given exactly when its condition holds and none before it does; a job that is not refused meets no condition.
 use Prim.Native.Nat.{ℕ, suc, _<_}
-use mathlib.Core.Path.{_≡_, refl, sym, _∙_}
+use mathlib.Core.Path.{_≡_, refl, sym, subst, _∙_}
 use mathlib.Core.List.{List, [], _∷_, _++_, append-nil}
 use mathlib.Core.Bool.{Bool, true, false}
 use mathlib.Core.Logic.{_⊎_, inl, inr}
@@ -53,11 +53,11 @@ unfolding held anyOf
 none-append [] ds h = refl
 none-append (c ∷ cs) ds h = rw (neither-left (c .1) (held cs) h) (none-append cs ds (neither-right (c .1) (held cs) h))
 
--- a case of a list, and those that stand before it
-pub record Given (front back : List Case) (n : ℕ) (b : Bool) : Type 0 where
-  pub when : b ≡ true → held front ≡ false → firstOf (front ++ ((n, b) ∷ back)) ≡ n
-  pub holds : firstOf (front ++ ((n, b) ∷ back)) ≡ n → b ≡ true
-  pub none-before : firstOf (front ++ ((n, b) ∷ back)) ≡ n → held front ≡ false
+-- the answer r is n exactly if n's condition b holds and none of those in front does
+pub record Given (r : ℕ) (front : List Case) (n : ℕ) (b : Bool) : Type 0 where
+  pub when : b ≡ true → held front ≡ false → r ≡ n
+  pub holds : r ≡ n → b ≡ true
+  pub none-before : r ≡ n → held front ≡ false
 
 module _ (n : ℕ) (b : Bool) (back : List Case) where
   given-only : (m : ℕ) (front : List Case) → rises m (front ++ ((n, b) ∷ back)) ≡ true → firstOf (front ++ ((n, b) ∷ back)) ≡ n → (b ≡ true) × (held front ≡ false)
@@ -77,7 +77,7 @@ module _ (n : ℕ) (b : Bool) (back : List Case) where
       go true f o = absurd (omega (arith, f, later-above (c .0) n b cs back (others-rise m c (cs ++ ((n, b) ∷ back)) r)))
       go false f o = o f
 
-pub given-exactly : (front back : List Case) (n : ℕ) (b : Bool) → rises 0 (front ++ ((n, b) ∷ back)) ≡ true → Given front back n b
+pub given-exactly : (front back : List Case) (n : ℕ) (b : Bool) → rises 0 (front ++ ((n, b) ∷ back)) ≡ true → Given (firstOf (front ++ ((n, b) ∷ back))) front n b
 given-exactly front back n b r = record {
   when = λ e h. none-append front ((n, b) ∷ back) h ∙ rw e;
   holds = λ e. given-only n b back 0 front r e .0;
@@ -95,11 +95,12 @@ none-held m (c ∷ cs) r e = go (c .1) e (none-held (c .0) cs (others-rise m c c
     go true f o = absurd (omega (arith, f, number-above m c cs r))
     go false f o = o f
 
-pub record Accepted (cs : List Case) : Type 0 where
-  pub when : held cs ≡ false → firstOf cs ≡ 0
-  pub none : firstOf cs ≡ 0 → held cs ≡ false
+-- the answer r is 0 exactly if none of them holds
+pub record Accepted (r : ℕ) (cs : List Case) : Type 0 where
+  pub when : held cs ≡ false → r ≡ 0
+  pub none : r ≡ 0 → held cs ≡ false
 
-pub accepted-exactly : (cs : List Case) → rises 0 cs ≡ true → Accepted cs
+pub accepted-exactly : (cs : List Case) → rises 0 cs ≡ true → Accepted (firstOf cs) cs
 accepted-exactly cs r = record { when = λ h. rw (append-nil cs) at (none-append cs [] h); none = none-held 0 cs r }
 
 -- ---- one list behind another
@@ -124,21 +125,27 @@ first-of cs ds r =
 
 -- ---- a job's refusals
 
-early-rises : (j : Job) → rises 0 (earlyRefusals j) ≡ true
+early-rise : (j : Job) → rises 0 (earlyRefusals j) ≡ true
 unfolding rises
-early-rises j = refl
+early-rise j = refl
 
-rising-refusals : (j : Job) → rises 0 (refusals j) ≡ true
+refusals-rise : (j : Job) → rises 0 (refusals j) ≡ true
 unfolding rises
-rising-refusals j = refl
+refusals-rise j = refl
 
-pub refused-exactly : (j : Job) (front back : List Case) (n : ℕ) (b : Bool) → refusals j ≡ front ++ ((n, b) ∷ back) → Given front back n b
-refused-exactly j front back n b e = given-exactly front back n b (rw e at (rising-refusals j))
+pub refused-exactly : (j : Job) (front back : List Case) (n : ℕ) (b : Bool) → refusals j ≡ front ++ ((n, b) ∷ back) → Given (refusalOf j) front n b
+unfolding refusalOf
+refused-exactly j front back n b e =
+    subst (λ cs. Given (firstOf cs) front n b) (sym e) (given-exactly front back n b (subst (λ cs. rises 0 cs ≡ true) e (refusals-rise j)))
+
+pub let-pass-exactly : (j : Job) → Accepted (refusalOf j) (refusals j)
+unfolding refusalOf
+let-pass-exactly j = accepted-exactly (refusals j) (refusals-rise j)
 
 -- refusals 8 and 9 where 1 to 7 let the job pass
 pub refusal-late : (j : Job) → earlyRefusal j ≡ 0 → refusalOf j ≡ lateRefusal (j .source) (plan j)
 unfolding refusalOf earlyRefusal lateRefusal
-refusal-late j e = first-append (earlyRefusals j) (lateRefusals (j .source) (plan j)) (early-rises j) e
+refusal-late j e = first-append (earlyRefusals j) (lateRefusals (j .source) (plan j)) (early-rise j) e
 
 pub refusal-early : (j : Job) → 0 < earlyRefusal j → refusalOf j ≡ earlyRefusal j
 unfolding refusalOf earlyRefusal
