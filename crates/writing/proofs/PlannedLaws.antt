@@ -16,7 +16,7 @@ use Rattle.made.proofs.MadeLaws.{made-length}
 use Rattle.made.proofs.PlanLaws.{Making, plan-past, plan-made, plan-served}
 use Rattle.result.specs.Result.{isWritten, makerOf, at, written, resultOf, resultLength}
 use Rattle.result.proofs.PlacesLaws.{made-is}
-use Rattle.writing.specs.Writing.{Counts, Laid, Planned}
+use Rattle.writing.specs.Writing.{Laid, Planned}
 use Rattle.writing.proofs.LengthLaws.{length-result}
 
 -- a job is planned, its work room written to

@@ -1,25 +1,24 @@
 -- Records are written one behind the other: what is left of them, written from here, gives them all.
 use Prim.Native.Nat.{ℕ, zero, suc, _+_, _*_, _-_, _/_, _%_, _^_, _<_, _≤_}
 use mathlib.Core.Path.{_≡_, refl, sym, ap, _∙_}
-use mathlib.Core.List.{List, [], _∷_, _++_}
+use mathlib.Core.List.{List, _++_}
 use mathlib.Core.Bool.{Bool, true, false}
 use lib.Arith.{mod-mul, digits-div, digits-mod}
-use native.Mathlib.Nat.{pow-suc, add-assoc}
+use native.Mathlib.Nat.{pow-suc}
 use native.Mathlib.Omega.{arith}
-use lib.ListN.{length, getD, length-append}
+use lib.ListN.{length, getD}
 use lib.Seq.{sets, length-sets}
-use Rattle.laws.specs.Choice.{pick}
 use Rattle.laws.proofs.SetsLaws.{sets-append}
 use Rattle.number.specs.BigEndian.{enc, put}
 use Rattle.number.proofs.BigEndianLaws.{length-enc, pow-pos}
 use Rattle.source.specs.declared.EncodingRecord.{EncodingRecord}
-use Rattle.source.specs.Header.{platformOf, encodingOf, recordOf}
+use Rattle.source.specs.Header.{recordOf}
 use Rattle.listing.specs.Job.{Job}
 use Rattle.plan.specs.declared.Outcome.{Outcome}
 use Rattle.plan.specs.declared.Outcome.the-variants.{NotRetained}
 use Rattle.result.specs.Result.{isWritten, makerOf, at, countFrom, offsetOf, recordBytes, recordsFrom}
 use Rattle.writing.proofs.LengthLaws.{length-record}
-use Rattle.writing.specs.Writing.{sourced, Counts, Recorded, Laid}
+use Rattle.writing.specs.Writing.{sourced, Recorded, Laid}
 
 -- ---- a record's numbers
 

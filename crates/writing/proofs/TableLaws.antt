@@ -1,8 +1,7 @@
 -- The table of a record by the kind of its subtable: what its writer asks for, and that it is the record's.
-use Prim.Native.Nat.{ℕ, _+_, _<_, _≤_}
+use Prim.Native.Nat.{ℕ, _+_, _≤_}
 use mathlib.Core.Path.{_≡_, refl, sym, ap, _∙_}
-use mathlib.Core.List.{List, []}
-use mathlib.Core.Bool.{false}
+use mathlib.Core.List.{List}
 use native.Mathlib.Omega.{arith}
 use lib.ListN.{length}
 use lib.Seq.{sets}
@@ -17,17 +16,13 @@ use Rattle.format4.specs.declared.Size.{Size}
 use Rattle.format4.specs.declared.Size.the-variants.{Empty, TooLong, Fits}
 use Rattle.format4.specs.Format4.{format4}
 use Rattle.format4.specs.Size.{sizeOf as sizeOf4}
-use Rattle.format12.specs.Format12.{format12, groups}
-use Rattle.format12.proofs.TableLaws.{length-table}
+use Rattle.format12.specs.Format12.{format12}
 use Rattle.making.specs.Making.{Fits4}
 use Rattle.selector_tables.specs.Selectors.{given}
-use Rattle.format14.specs.declared.Outcome.{Outcome as Outcome14}
-use Rattle.format14.specs.declared.Outcome.the-variants.{Refused8, Empty as Empty14, Length}
-use Rattle.format14.specs.Format14.{format14, rows, lengthOf, outcome as outcome14}
-use Rattle.format14.proofs.WholeLaws.{outcome-says, length-format14}
-use Rattle.plan.specs.declared.Outcome.{Outcome}
+use Rattle.format14.specs.Format14.{format14, rows, lengthOf}
+use Rattle.format14.proofs.WholeLaws.{length-format14}
 use Rattle.plan.specs.declared.Outcome.the-variants.{Made}
-use Rattle.plan.specs.Plan.{tableAs, tableOf, by4, by14, fresh, isMade, sizeOf}
+use Rattle.plan.specs.Plan.{tableOf, by4, fresh, sizeOf}
 use Rattle.plan.proofs.FreshLaws.{leads4, readable14}
 use Rattle.made.proofs.MadeLaws.{not-made, made-length, table-is}
 use Rattle.writing.specs.Writing.{Room}

@@ -1,6 +1,6 @@
 -- Header, records and tables, one behind the other, are the result.
 use Prim.Native.Nat.{ℕ, _+_, _*_, _≤_}
-use mathlib.Core.Path.{_≡_, refl, sym, ap, _∙_}
+use mathlib.Core.Path.{_≡_, sym, ap, _∙_}
 use mathlib.Core.List.{List, _++_}
 use native.Mathlib.Omega.{arith}
 use lib.ListN.{length, drop}
@@ -11,7 +11,7 @@ use Rattle.number.proofs.BigEndianLaws.{length-enc}
 use Rattle.listing.specs.Job.{Job, job}
 use Rattle.plan.specs.declared.Outcome.{Outcome}
 use Rattle.result.specs.Result.{written, tablesStart, recordsFrom, tablesBelow, resultOf, resultLength}
-use Rattle.writing.specs.Writing.{sourced, Counts, Laid, Planned}
+use Rattle.writing.specs.Writing.{sourced, Laid, Planned}
 use Rattle.writing.proofs.LengthLaws.{length-records}
 use Rattle.writing.proofs.PlannedLaws.{laid, planned-length}
 use Rattle.writing.proofs.RecordsLaws.{records-sourced}

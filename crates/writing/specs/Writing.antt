@@ -40,7 +40,8 @@ pub record Room (j : Job) (k place l : ℕ) : Type 0 where
   pub is : fresh j k ≡ Made size
   pub fits : place + size ≤ l
 
--- the outcomes are the plan of a job that may be worked on, and so many of its records are written; the flags and the last two lists are work room, as are the others, which writing does without
+-- the outcomes are the plan of a job that may be worked on, and so many of its records are written
+-- (what is asked is what planning asks; writing makes no use of the work room `others`)
 pub record Planned (j : Job) (os : List Outcome) (count : ℕ) (flags tocodes toglyphs : List ℕ) : Type 0 where
   pub m : ℕ
   pub others : List ℕ

@@ -1,3 +1,4 @@
+-- Version 0 and the count.
 use Rattle.writing.proofs.WholeLaws.{header-is}
 use borrow.Author.Needs.{needs}
 use Rattle.writing.proofs.put_header.Statement.{statement}

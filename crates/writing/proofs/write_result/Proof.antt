@@ -1,3 +1,4 @@
+-- Header, records and tables, each behind the one before.
 use Rattle.writing.proofs.WholeLaws.{whole}
 use borrow.Author.Needs.{needs}
 use Rattle.writing.proofs.write_result.Statement.{statement}
