@@ -18,7 +18,8 @@ use Rattle.job_input.specs.declared.Field.{Field}
 use Rattle.job_input.specs.declared.Found.the-variants.{Whole}
 use Rattle.job_input.specs.Column.{column}
 use Rattle.job_input.specs.declared.Places.{Places}
-use Rattle.job_input.specs.Job.{Job, size, within, fieldAt, jobAt, parsedAt, parse, read}
+use Rattle.listing.specs.Job.{Job}
+use Rattle.job_input.specs.Job.{size, within, fieldAt, jobAt, parsedAt, parse, read}
 use Rattle.job_input.specs.Bytes.{framed, pairBytes, jobBytes, Fit, Sized}
 use Rattle.job_input.proofs.JobLaws.{Five, whole, five-located}
 
@@ -154,7 +155,7 @@ module _ (j : Job) (z : Sized j) where
       let a = fieldIn 1 (j .source) 0 in
       let b = fieldIn 6 pairsIn (a .end) in
       let c = fieldIn 4 (encs 4 (j .kept)) (b .end) in
-      let d = fieldIn 2 (encs 2 (j .map)) (c .end) in
+      let d = fieldIn 2 (encs 2 (j .newGlyphs)) (c .end) in
       record { source = a; pairs = b; kept = c; map = d; requested = fieldIn 2 (encs 2 (j .requested)) (d .end) }
 
   -- each record, and what stands behind it
@@ -168,7 +169,7 @@ module _ (j : Job) (z : Sized j) where
   kp = framed 0x4B50 (encs 4 (j .kept))
 
   abbrev mp : List ℕ
-  mp = framed 0x4D50 (encs 2 (j .map))
+  mp = framed 0x4D50 (encs 2 (j .newGlyphs))
 
   abbrev rq : List ℕ
   rq = framed 0x5251 (encs 2 (j .requested))
@@ -186,7 +187,7 @@ module _ (j : Job) (z : Sized j) where
   at-map = next-stands 0x4B50 (encs 4 (j .kept)) (mp ++ rq) at-kept
 
   at-requested : Stands bytes (places .map .end) rq
-  at-requested = next-stands 0x4D50 (encs 2 (j .map)) rq at-map
+  at-requested = next-stands 0x4D50 (encs 2 (j .newGlyphs)) rq at-map
 
   ends : places .requested .end ≡ length bytes
   ends =
@@ -199,7 +200,7 @@ module _ (j : Job) (z : Sized j) where
         length-framed 0x5442 (j .source),
         length-framed 0x5052 pairsIn,
         length-framed 0x4B50 (encs 4 (j .kept)),
-        length-framed 0x4D50 (encs 2 (j .map)),
+        length-framed 0x4D50 (encs 2 (j .newGlyphs)),
         length-framed 0x5251 (encs 2 (j .requested)),
       )
 
@@ -234,8 +235,8 @@ module _ (j : Job) (z : Sized j) where
   the-kept : Back 0x4B50 4 4096 bytes (places .pairs .end) (encs 4 (j .kept)) (j .kept) (jobAt bytes places .kept)
   the-kept = framed-list 0x4B50 4 4096 (j .kept) (omega arith) (omega arith) (z .kept) (omega (arith, z .kept)) (left kp (mp ++ rq) at-kept) (z .kept4)
 
-  the-map : Back 0x4D50 2 8192 bytes (places .kept .end) (encs 2 (j .map)) (j .map) (jobAt bytes places .map)
-  the-map = framed-list 0x4D50 2 8192 (j .map) (omega arith) (omega arith) (z .map) (omega (arith, z .map)) (left mp rq at-map) (z .map2)
+  the-map : Back 0x4D50 2 8192 bytes (places .kept .end) (encs 2 (j .newGlyphs)) (j .newGlyphs) (jobAt bytes places .newGlyphs)
+  the-map = framed-list 0x4D50 2 8192 (j .newGlyphs) (omega arith) (omega arith) (z .map) (omega (arith, z .map)) (left mp rq at-map) (z .map2)
 
   the-requested : Back 0x5251 2 2048 bytes (places .map .end) (encs 2 (j .requested)) (j .requested) (jobAt bytes places .requested)
   the-requested = framed-list 0x5251 2 2048 (j .requested) (omega arith) (omega arith) (z .requested) (omega (arith, z .requested)) at-requested (z .requested2)
@@ -255,6 +256,6 @@ module _ (j : Job) (z : Sized j) where
       ap (parsedAt bytes) (five-located bytes places found)
       ∙ ap read (made (the-source .is) (the-codes .is) the-glyphs (the-kept .is) (the-map .is) (the-requested .is))
     where
-      made : {s c g k m r : List ℕ} → s ≡ j .source → c ≡ j .codes → g ≡ j .glyphs → k ≡ j .kept → m ≡ j .map → r ≡ j .requested
-          → _≡_ {A = Job} (record { source = s; codes = c; glyphs = g; kept = k; map = m; requested = r }) j
+      made : {s c g k m r : List ℕ} → s ≡ j .source → c ≡ j .codes → g ≡ j .glyphs → k ≡ j .kept → m ≡ j .newGlyphs → r ≡ j .requested
+          → _≡_ {A = Job} (record { source = s; codes = c; glyphs = g; kept = k; newGlyphs = m; requested = r }) j
       made a b c d e f = rw (a, b, c, d, e, f)

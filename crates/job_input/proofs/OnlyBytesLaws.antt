@@ -14,13 +14,14 @@ use Rattle.laws.proofs.TakeLaws.{take-counts}
 use Rattle.number.specs.BigEndian.{enc, Bytes}
 use Rattle.number.specs.Row.{encs}
 use Rattle.number.proofs.BigEndianLaws.{be-lt, enc-be}
+use Rattle.listing.specs.Job.{Job}
 use Rattle.job_input.specs.declared.Field.{Field}
 use Rattle.job_input.specs.declared.Found.the-variants.{Whole}
 use Rattle.job_input.specs.declared.Places.{Places}
 use Rattle.job_input.specs.declared.Located.{Located}
 use Rattle.job_input.specs.declared.Located.the-variants.{At, Damaged}
 use Rattle.job_input.specs.Column.{column}
-use Rattle.job_input.specs.Job.{Job, Parsed, read, damaged, size, within, fieldAt, located, jobAt, parsedAt, parse}
+use Rattle.job_input.specs.Job.{Parsed, read, damaged, size, within, fieldAt, located, jobAt, parsedAt, parse}
 use Rattle.job_input.specs.Bytes.{framed, pairBytes, jobBytes, Fit, Sized}
 use Rattle.job_input.proofs.JobLaws.{field-stands, field-is, field-payload, five, placed}
 use Rattle.job_input.proofs.ColumnLaws.{length-column}
@@ -103,8 +104,8 @@ module _ (xs : List ℕ) (b : Bytes xs) where
         ∙ ap (λ (r : List ℕ). framed 0x5052 (pairBytes (j .codes) (j .glyphs)) ++ r)
         (framed-rest 0x4B50 4 4096 (p .pairs .end) (p .kept) (g .kept) (encs 4 (j .kept)) (encs-column 4 (p .kept .count) (p .kept .at) (h .kept .inside))
         ∙ ap (λ (r : List ℕ). framed 0x4B50 (encs 4 (j .kept)) ++ r)
-        (framed-rest 0x4D50 2 8192 (p .kept .end) (p .map) (g .map) (encs 2 (j .map)) (encs-column 2 (p .map .count) (p .map .at) (h .map .inside))
-        ∙ ap (λ (r : List ℕ). framed 0x4D50 (encs 2 (j .map)) ++ r)
+        (framed-rest 0x4D50 2 8192 (p .kept .end) (p .map) (g .map) (encs 2 (j .newGlyphs)) (encs-column 2 (p .map .count) (p .map .at) (h .map .inside))
+        ∙ ap (λ (r : List ℕ). framed 0x4D50 (encs 2 (j .newGlyphs)) ++ r)
         (framed-rest 0x5251 2 2048 (p .map .end) (p .requested) (g .requested) (encs 2 (j .requested)) (encs-column 2 (p .requested .count) (p .requested .at) (h .requested .inside))
         ∙ rw last (append-nil (framed 0x5251 (encs 2 (j .requested))))))))
 

@@ -6,10 +6,11 @@ use native.Mathlib.Omega.{arith}
 use lib.ListN.{length}
 use lib.Seq.{sets, length-sets}
 use Rattle.laws.proofs.SetsLaws.{take-sets}
+use Rattle.listing.specs.Job.{Job}
 use Rattle.job_input.specs.declared.Places.{Places}
 use Rattle.job_input.specs.declared.Located.the-variants.{At}
 use Rattle.job_input.specs.Column.{column}
-use Rattle.job_input.specs.Job.{Job, located, jobAt, parse, jobOf}
+use Rattle.job_input.specs.Job.{located, jobAt, parse, jobOf}
 use Rattle.job_input.specs.Room.{Front, Lent}
 use Rattle.job_input.proofs.ColumnLaws.{length-column}
 use Rattle.job_input.proofs.JobLaws.{placed, job-at}
@@ -34,7 +35,7 @@ module _ (xs : List ℕ) (p : Places) (e : located xs ≡ At p) where
   pub lent : (cs₀ cs gs₀ gs ks₀ ks ms₀ ms rs₀ rs : List ℕ)
       → 2048 ≤ length cs₀ → 2048 ≤ length gs₀ → 4096 ≤ length ks₀ → 8192 ≤ length ms₀ → 2048 ≤ length rs₀
       → cs ≡ sets cs₀ 0 (jobOf (parse xs) .codes) → gs ≡ sets gs₀ 0 (jobOf (parse xs) .glyphs) → ks ≡ sets ks₀ 0 (jobOf (parse xs) .kept)
-      → ms ≡ sets ms₀ 0 (jobOf (parse xs) .map) → rs ≡ sets rs₀ 0 (jobOf (parse xs) .requested)
+      → ms ≡ sets ms₀ 0 (jobOf (parse xs) .newGlyphs) → rs ≡ sets rs₀ 0 (jobOf (parse xs) .requested)
       → Lent xs p cs gs ks ms rs
   lent cs₀ cs gs₀ gs ks₀ ks ms₀ ms rs₀ rs lc lg lk lm lr hc hg hk hm hr =
       let g = placed xs p e in
@@ -43,6 +44,6 @@ module _ (xs : List ℕ) (p : Places) (e : located xs ≡ At p) where
         codes = front (λ j. j .codes) 4 6 (p .pairs .at) (p .pairs .count) refl 2048 cs₀ cs (g .pairs .few) lc hc;
         glyphs = front (λ j. j .glyphs) 2 6 (p .pairs .at + 4) (p .pairs .count) refl 2048 gs₀ gs (g .pairs .few) lg hg;
         kept = front (λ j. j .kept) 4 4 (p .kept .at) (p .kept .count) refl 4096 ks₀ ks (g .kept .few) lk hk;
-        map = front (λ j. j .map) 2 2 (p .map .at) (p .map .count) refl 8192 ms₀ ms (g .map .few) lm hm;
+        map = front (λ j. j .newGlyphs) 2 2 (p .map .at) (p .map .count) refl 8192 ms₀ ms (g .map .few) lm hm;
         requested = front (λ j. j .requested) 2 2 (p .requested .at) (p .requested .count) refl 2048 rs₀ rs (g .requested .few) lr hr;
       }

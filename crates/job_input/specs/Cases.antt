@@ -1,6 +1,7 @@
 -- Jobs and what they are taken apart into: a small one, and the same with one thing wrong.
 use Prim.Native.Nat.{ℕ}
 use mathlib.Core.List.{List, [], _∷_, _++_}
+use Rattle.listing.specs.Job.{job}
 use Rattle.job_input.specs.Job.{Parsed, read, damaged}
 
 abbrev tb : List ℕ
@@ -25,8 +26,8 @@ noEntries = 0x4D ∷ 0x50 ∷ 0 ∷ 0 ∷ 0 ∷ 0 ∷ []
 abbrev halfEntry : List ℕ
 halfEntry = 0x4D ∷ 0x50 ∷ 0 ∷ 0 ∷ 0 ∷ 1 ∷ 0 ∷ []
 
-abbrev job : List ℕ → Parsed
-job entries = read (record { source = 0 ∷ 0 ∷ 0 ∷ 7 ∷ []; codes = 0x41 ∷ 0x10041 ∷ []; glyphs = 1 ∷ 258 ∷ []; kept = 0xFE00 ∷ []; map = entries; requested = [] })
+abbrev withMap : List ℕ → Parsed
+withMap entries = read (job (0 ∷ 0 ∷ 0 ∷ 7 ∷ []) (0x41 ∷ 0x10041 ∷ []) (1 ∷ 258 ∷ []) (0xFE00 ∷ []) entries [])
 
 pub record Case : Type 0 where
   pub bytes : List ℕ
@@ -37,8 +38,8 @@ case xs p = record { bytes = xs; parsed = p }
 
 abbrev pub cases : List Case
 cases =
-    case (tb ++ (pr ++ (kp ++ (mp ++ rq)))) (job (65535 ∷ 1 ∷ []))
-    ∷ case (tb ++ (pr ++ (kp ++ (noEntries ++ rq)))) (job [])
+    case (tb ++ (pr ++ (kp ++ (mp ++ rq)))) (withMap (65535 ∷ 1 ∷ []))
+    ∷ case (tb ++ (pr ++ (kp ++ (noEntries ++ rq)))) (withMap [])
     ∷ case (tb ++ (pr ++ (kp ++ (halfEntry ++ rq)))) damaged
     ∷ case (tb ++ (pr ++ (mp ++ (kp ++ rq)))) damaged
     ∷ case (tb ++ (pr ++ (kp ++ (mp ++ (rq ++ (0 ∷ [])))))) damaged

@@ -6,6 +6,7 @@ use lib.ListN.{length, take, drop}
 use lib.Dec.{leb, eqb}
 use Rattle.laws.specs.Choice.{pick, both, ifEq}
 use Rattle.number.specs.BigEndian.{be}
+use Rattle.listing.specs.Job.{Job, job}
 use Rattle.job_input.specs.Column.{column}
 use Rattle.job_input.specs.declared.Field.{Field}
 use Rattle.job_input.specs.declared.Found.{Found}
@@ -69,14 +70,6 @@ located xs =
 
 -- ---- the lists
 
-pub record Job : Type 0 where
-  pub source : List ℕ
-  pub codes : List ℕ
-  pub glyphs : List ℕ
-  pub kept : List ℕ
-  pub map : List ℕ
-  pub requested : List ℕ
-
 -- in a pair the code point comes first
 abbrev pub jobAt : List ℕ → Places → Job
 jobAt xs p = record {
@@ -84,7 +77,7 @@ jobAt xs p = record {
   codes = column 4 6 xs (p .pairs .at) (p .pairs .count);
   glyphs = column 2 6 xs (p .pairs .at + 4) (p .pairs .count);
   kept = column 4 4 xs (p .kept .at) (p .kept .count);
-  map = column 2 2 xs (p .map .at) (p .map .count);
+  newGlyphs = column 2 2 xs (p .map .at) (p .map .count);
   requested = column 2 2 xs (p .requested .at) (p .requested .count);
 }
 
@@ -102,4 +95,4 @@ parse xs = parsedAt xs (located xs)
 -- the lists of damaged bytes are empty
 abbrev pub jobOf : Parsed → Job
 jobOf (read j) = j
-jobOf damaged = record { source = []; codes = []; glyphs = []; kept = []; map = []; requested = [] }
+jobOf damaged = job [] [] [] [] [] []

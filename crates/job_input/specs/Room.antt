@@ -33,5 +33,5 @@ pub record Lent (xs : List ℕ) (p : Places) (cs gs ks ms rs : List ℕ) : Type 
   pub codes : Front (p .pairs .count) cs (jobAt xs p .codes)
   pub glyphs : Front (p .pairs .count) gs (jobAt xs p .glyphs)
   pub kept : Front (p .kept .count) ks (jobAt xs p .kept)
-  pub map : Front (p .map .count) ms (jobAt xs p .map)
+  pub map : Front (p .map .count) ms (jobAt xs p .newGlyphs)
   pub requested : Front (p .requested .count) rs (jobAt xs p .requested)

@@ -172,7 +172,7 @@ fn fill_lists(
 )
     requires { ⌜ Placed (now s) places ⌝ }
     ensures { λ _. ⌜ now (kept .exit) ≡ sets (now (kept .entry)) 0 (jobAt (now (s .entry)) places .kept) ⌝ }
-    ensures { λ _. ⌜ now (map .exit) ≡ sets (now (map .entry)) 0 (jobAt (now (s .entry)) places .map) ⌝ }
+    ensures { λ _. ⌜ now (map .exit) ≡ sets (now (map .entry)) 0 (jobAt (now (s .entry)) places .newGlyphs) ⌝ }
     ensures { λ _. ⌜ now (requested .exit) ≡ sets (now (requested .entry)) 0 (jobAt (now (s .entry)) places .requested) ⌝ }
 {
     let points = places.kept;
@@ -196,7 +196,7 @@ pub fn take_apart(
     ensures { λ _. ⌜ now (codes .exit) ≡ sets (now (codes .entry)) 0 (jobOf (parse (now (s .entry))) .codes) ⌝ }
     ensures { λ _. ⌜ now (glyphs .exit) ≡ sets (now (glyphs .entry)) 0 (jobOf (parse (now (s .entry))) .glyphs) ⌝ }
     ensures { λ _. ⌜ now (kept .exit) ≡ sets (now (kept .entry)) 0 (jobOf (parse (now (s .entry))) .kept) ⌝ }
-    ensures { λ _. ⌜ now (map .exit) ≡ sets (now (map .entry)) 0 (jobOf (parse (now (s .entry))) .map) ⌝ }
+    ensures { λ _. ⌜ now (map .exit) ≡ sets (now (map .entry)) 0 (jobOf (parse (now (s .entry))) .newGlyphs) ⌝ }
     ensures { λ _. ⌜ now (requested .exit) ≡ sets (now (requested .entry)) 0 (jobOf (parse (now (s .entry))) .requested) ⌝ }
 {
     let located = locate(s);
