@@ -4,12 +4,15 @@ use native.Mathlib.Nat.{mul-div-le, div-add-mod, mul-le-mul-left}
 use mathlib.Core.Path.{_≡_, refl, sym, ap, subst, _∙_}
 use mathlib.Core.List.{List}
 use mathlib.Core.Bool.{Bool, true, false}
+use mathlib.Core.Logic.{⊎-elim}
 use native.Mathlib.Omega.{arith}
-use lib.ListN.{length}
+use lib.ListN.{length, take}
+use lib.Seq.{take-all}
 use lib.Dec.{leb, eqb}
 use borrow.Author.Tests.{le-leb, leb-true, eq-eqb, eqb-true}
 use Rattle.laws.specs.Choice.{ifEq}
-use Rattle.laws.proofs.ChoiceLaws.{both-left, both-right, not-true, false-true, if-eq, else-eq}
+use Rattle.laws.proofs.ChoiceLaws.{both-left, both-right, not-true, false-true, if-eq, else-eq, lt-or-le}
+use Rattle.laws.proofs.TakeLaws.{take-counts}
 use Rattle.number.specs.BigEndian.{Num}
 use Rattle.job_input.specs.declared.Field.{Field}
 use Rattle.job_input.specs.declared.Found.{Found}
@@ -193,10 +196,18 @@ module _ (xs : List ℕ) (p : Places) where
   pub job-at : located xs ≡ At p → jobOf (parse xs) ≡ jobAt xs p
   job-at e = rw e
 
--- so of a longer input it is enough to read one byte more than that
-pub long-damaged : (xs : List ℕ) → 81950 < length xs → located xs ≡ Damaged
+long-damaged : (xs : List ℕ) → 81950 < length xs → located xs ≡ Damaged
 long-damaged xs h = go (located xs) refl
   where
     go : (r : Located) → located xs ≡ r → located xs ≡ Damaged
     go (At p) e = absurd (omega (arith, h, longest xs p e))
     go Damaged e = e
+
+-- so of a longer input it is enough to read one byte more than that
+pub enough-read : (xs : List ℕ) → parse (take 81951 xs) ≡ parse xs
+enough-read xs = ⊎-elim longer (λ l. rw (take-all 81951 xs l)) (lt-or-le 81951 (length xs))
+  where
+    longer : 81951 < length xs → parse (take 81951 xs) ≡ parse xs
+    longer l =
+        let n = take-counts 81951 xs (omega (arith, l)) in
+        rw (long-damaged xs (omega (arith, l)), long-damaged (take 81951 xs) (omega (arith, n)))

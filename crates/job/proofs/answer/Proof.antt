@@ -20,7 +20,7 @@ refuse-requires : tie.Need-refuse-requires
 refuse-requires c κs = search needs
 
 returns : tie.Need-returns
-returns c = answer-damaged _ _ _ _ (c .before .before .before .take-apart .ensures .0) (c .before .enum-told .given .1) (c .refuse .ensures) _
+returns c = answer-damaged _ _ _ _ (c .before .before .before .take-apart .ensures .0) (c .before .enum-told .given .1) (c .refuse .ensures)
 
 subset-from-requires : tie.Need-subset-from-requires
 subset-from-requires c κs =
@@ -31,7 +31,7 @@ reply-of-requires : tie.Need-reply-of-requires
 reply-of-requires c κs = search needs
 
 returns-2 : tie.Need-returns-2
-returns-2 c = answer-at _ _ _ _ _ _ _ (c .before .before .before .before .before .before .before .before .before .before .before .take-apart .ensures .0) (c .before .before .before .before .before .before .before .before .before .located .given .1) (c .before .subset-from .ensures .0) (c .before .subset-from .ensures .1) (c .reply-of .ensures)
+returns-2 c = answer-at _ _ _ _ (c .before .before .before .before .before .before .before .before .before .before .before .take-apart .ensures .0) _ _ _ (c .before .before .before .before .before .before .before .before .before .located .given .1) (c .before .subset-from .ensures .0) (c .before .subset-from .ensures .1 .0) (c .before .subset-from .ensures .1 .1) (c .reply-of .ensures)
 
 pub answer-spec : {M : Type 1} → statement M
 answer-spec =

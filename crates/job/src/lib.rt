@@ -12,20 +12,21 @@ ghost use lib.ListN.{length};
 ghost use Rattle.job_input.specs.Job.{parse, jobAt};
 ghost use Rattle.job_input.specs.Room.{Lent};
 ghost use Rattle.job_output.specs.Output.{written, Parts};
-ghost use Rattle.job.specs.Answered.{answered, answerTo, outputTo, replyOf};
+ghost use Rattle.cmap.specs.Cmap.{answerOf, outputOf};
+ghost use Rattle.job.specs.Answered.{room, answered, replyOf, replyTo, leftBy};
 
 // What an answer is told as.
 fn reply_of(answer: Answer) -> Reply
     ensures { λ r. ⌜ r ≡ replyOf answer ⌝ }
 {
     match answer {
-        Answer::Written { length, records: _ } => job_output::accept(length),
+        Answer::Written { bytes, records: _ } => job_output::accept(bytes),
         Answer::Refused(number) => job_output::refuse(number),
         Answer::NoRoom(_) => job_output::refuse(10),
     }
 }
 
-// The lists of the job, lent to the library.
+// The lists of the job, lent to the call.
 fn subset_at(
     bytes: &[u8],
     places: Places,
@@ -37,8 +38,8 @@ fn subset_at(
     out: &mut [u8],
 ) -> Answer
     requires { ⌜ Lent (now bytes) places (now codes) (now glyphs) (now kept) (now map) (now requested) ⌝ }
-    ensures { λ r. ⌜ r ≡ answerTo (jobAt (now (bytes .entry)) places) (length (now (out .entry))) ⌝ }
-    ensures { λ _. ⌜ now (out .exit) ≡ outputTo (jobAt (now (bytes .entry)) places) (now (out .entry)) ⌝ }
+    ensures { λ r. ⌜ r ≡ answerOf (jobAt (now (bytes .entry)) places) (length (now (out .entry))) ⌝ }
+    ensures { λ _. ⌜ now (out .exit) ≡ outputOf (jobAt (now (bytes .entry)) places) (now (out .entry)) ⌝ }
 {
     let source = places.source;
     let from = source.at;
@@ -74,15 +75,18 @@ fn subset_from(
     out: &mut [u8; 32768],
 ) -> Answer
     requires { ⌜ Lent (now bytes) places (now codes) (now glyphs) (now kept) (now map) (now requested) ⌝ }
-    ensures { λ r. ⌜ r ≡ answerTo (jobAt (now (bytes .entry)) places) (length (now (out .entry))) ⌝ }
-    ensures { λ _. ⌜ now (out .exit) ≡ outputTo (jobAt (now (bytes .entry)) places) (now (out .entry)) ⌝ }
+    ensures { λ r. ⌜ r ≡ answerOf (jobAt (now (bytes .entry)) places) (length (now (out .entry))) ⌝ }
+    ensures { λ _. ⌜ length (now (out .entry)) ≡ room ⌝ }
+    ensures { λ _. ⌜ now (out .exit) ≡ outputOf (jobAt (now (bytes .entry)) places) (now (out .entry)) ⌝ }
 {
     subset_at(bytes, places, codes, glyphs, kept, map, requested, out)
 }
 
 // The whole of the program but reading and writing: what its reply writes is what the job asks for.
 pub fn answer(bytes: &[u8], out: &mut [u8; 32768]) -> Reply
-    ensures { λ r. ⌜ written r (now (out .exit)) ≡ answered (parse (now (bytes .entry))) (now (out .entry)) ⌝ }
+    ensures { λ r. ⌜ r ≡ replyTo (parse (now (bytes .entry))) ⌝ }
+    ensures { λ _. ⌜ now (out .exit) ≡ leftBy (parse (now (bytes .entry))) (now (out .entry)) ⌝ }
+    ensures { λ r. ⌜ written r (now (out .exit)) ≡ answered (parse (now (bytes .entry))) ⌝ }
     ensures { λ r. ⌜ Parts r (now (out .exit)) ⌝ }
 {
     let mut codes = [0u32; PAIRS_MAX];

@@ -1,1 +1,2 @@
+pub mod CmapLaws
 pub mod AnsweredLaws

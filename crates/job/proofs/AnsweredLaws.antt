@@ -1,0 +1,109 @@
+-- The call is given the job's lists, and what a reply writes is what its answer tells.
+use Prim.Native.Nat.{ℕ, _+_, _-_, _≤_}
+use mathlib.Core.Path.{_≡_, refl, ap, _∙_}
+use mathlib.Core.List.{List}
+use native.Mathlib.Omega.{arith}
+use lib.ListN.{length, take, drop}
+use Rattle.laws.proofs.TakeLaws.{take-counts}
+use Rattle.listing.specs.Job.{Job, job}
+use Rattle.job_input.specs.declared.Places.{Places}
+use Rattle.job_input.specs.declared.Located.{Located}
+use Rattle.job_input.specs.declared.Located.the-variants.{At, Damaged}
+use Rattle.job_input.specs.Job.{Parsed, read, damaged, located, jobAt, parse}
+use Rattle.job_input.specs.Room.{Front, Lent}
+use Rattle.job_output.specs.declared.Reply.{Reply}
+use Rattle.job_output.specs.Output.{written, refusal, Parts}
+use Rattle.job_output.proofs.OutputLaws.{written-acceptance, written-refusal, parts-acceptance, parts-refusal}
+use Rattle.cmap.specs.declared.Answer.{Answer}
+use Rattle.cmap.specs.declared.Answer.the-variants.{Written, Refused, NoRoom}
+use Rattle.cmap.specs.Cmap.{result, answerOf, outputOf}
+use Rattle.job.specs.Answered.{room, told, answered, replyOf, replyTo, leftBy}
+use Rattle.job.proofs.CmapLaws.{written-fits, written-front}
+
+-- ---- the lists that are lent
+
+front-length : (n : ℕ) (buffer list : List ℕ) → Front n buffer list → n ≡ length (take n buffer)
+front-length n buffer list f = take-counts n buffer (f .room)
+
+module _ (xs : List ℕ) (p : Places) (cs gs ks ms rs : List ℕ) (f : Lent xs p cs gs ks ms rs) where
+  pub codes-length : p .pairs .count ≡ length (take (p .pairs .count) cs)
+  codes-length = front-length _ _ _ (f .codes)
+
+  pub glyphs-length : p .pairs .count ≡ length (take (p .pairs .count) gs)
+  glyphs-length = front-length _ _ _ (f .glyphs)
+
+  pub kept-length : p .kept .count ≡ length (take (p .kept .count) ks)
+  kept-length = front-length _ _ _ (f .kept)
+
+  pub map-length : p .map .count ≡ length (take (p .map .count) ms)
+  map-length = front-length _ _ _ (f .map)
+
+  pub requested-length : p .requested .count ≡ length (take (p .requested .count) rs)
+  requested-length = front-length _ _ _ (f .requested)
+
+  source-length : p .source .at + p .source .count - p .source .at ≡ p .source .count
+  source-length = omega arith
+
+  abbrev given : Job
+  given =
+      job (take (p .source .at + p .source .count - p .source .at) (drop (p .source .at) xs)) (take (p .pairs .count) cs) (take (p .pairs .count) gs)
+      (take (p .kept .count) ks) (take (p .map .count) ms) (take (p .requested .count) rs)
+
+  given-job : given ≡ jobAt xs p
+  given-job = rw (source-length, f .codes .is, f .glyphs .is, f .kept .is, f .map .is, f .requested .is)
+
+  -- the call's answer and output are the job's
+  pub given-answer : (a : Answer) (n : ℕ) → a ≡ answerOf given n → a ≡ answerOf (jobAt xs p) n
+  given-answer a n e = e ∙ ap (λ j. answerOf j n) given-job
+
+  pub given-output : (out out′ : List ℕ) → out′ ≡ outputOf given out → out′ ≡ outputOf (jobAt xs p) out
+  given-output out out′ e = e ∙ ap (λ j. outputOf j out) given-job
+
+pub ruleset lending = (codes-length, glyphs-length, kept-length, map-length, requested-length, given-answer, given-output)
+
+-- ---- what a reply writes
+
+-- what the call says of an answer that it wrote: the bytes stand in the first places
+record Stands (a : Answer) (buffer bytes : List ℕ) : Type 0 where
+  fits : (n k : ℕ) → a ≡ Written n k → n ≤ length buffer
+  front : (n k : ℕ) → a ≡ Written n k → take n buffer ≡ bytes
+
+written-reply : (a : Answer) (buffer bytes : List ℕ) → Stands a buffer bytes → written (replyOf a) buffer ≡ told a bytes
+unfolding replyOf told
+written-reply (Written n k) buffer bytes s = rw (← s .front n k refl) (written-acceptance n buffer (s .fits n k refl))
+written-reply (Refused number) buffer bytes s = written-refusal number buffer
+written-reply (NoRoom n) buffer bytes s = written-refusal 10 buffer
+
+parts-reply : (a : Answer) (buffer bytes : List ℕ) → Stands a buffer bytes → Parts (replyOf a) buffer
+unfolding replyOf
+parts-reply (Written n k) buffer bytes s = parts-acceptance n buffer (s .fits n k refl)
+parts-reply (Refused number) buffer bytes s = parts-refusal number buffer
+parts-reply (NoRoom n) buffer bytes s = parts-refusal 10 buffer
+
+module _ (buffer : List ℕ) where
+  pub tells-job : length buffer ≡ room → (j : Job) → (written (replyTo (read j)) (leftBy (read j) buffer) ≡ answered (read j)) × Parts (replyTo (read j)) (leftBy (read j) buffer)
+  unfolding replyTo leftBy answered
+  tells-job l j =
+      let s : Stands (answerOf j room) (outputOf j buffer) (result j) = record { fits = λ n k e. written-fits j buffer n k (rw l e); front = λ n k e. written-front j buffer n k (rw l e) } in
+      (written-reply (answerOf j room) (outputOf j buffer) (result j) s, parts-reply (answerOf j room) (outputOf j buffer) (result j) s)
+
+  pub tells-damaged : (written (replyTo damaged) (leftBy damaged buffer) ≡ answered damaged) × Parts (replyTo damaged) (leftBy damaged buffer)
+  unfolding replyTo leftBy answered
+  tells-damaged = (written-refusal 12 buffer, parts-refusal 12 buffer)
+
+-- ---- what the function answers, with the code's own values
+
+abbrev Answers : Parsed → List ℕ → Reply → List ℕ → Type 0
+Answers p buffer reply buffer′ =
+    (reply ≡ replyTo p) × ((buffer′ ≡ leftBy p buffer) × ((written reply buffer′ ≡ answered p) × Parts reply buffer′))
+
+module _ (xs buffer : List ℕ) (r : Located) (reply : Reply) (q : r ≡ located xs) where
+  pub answer-damaged : r ≡ Damaged → reply ≡ refusal 12 → Answers (parse xs) buffer reply buffer
+  unfolding replyTo leftBy answered
+  answer-damaged e h = rw (← q, e, h) (refl, (refl, tells-damaged buffer))
+
+  pub answer-at : (p : Places) (a : Answer) (buffer′ : List ℕ) → r ≡ At p
+      → a ≡ answerOf (jobAt xs p) (length buffer) → length buffer ≡ room → buffer′ ≡ outputOf (jobAt xs p) buffer → reply ≡ replyOf a
+      → Answers (parse xs) buffer reply buffer′
+  unfolding replyTo leftBy answered
+  answer-at p a buffer′ e ha l hb hr = rw (← q, e, hr, ha, l, hb) (refl, (refl, tells-job buffer l (jobAt xs p)))
