@@ -1,9 +1,7 @@
 // Answers the jobs on standard input, each behind its length in four bytes, and writes the answers one after the other.
+use job::INPUT_ROOM;
 ghost use Prim.Native.Nat.{_≤_};
 ghost use lib.ListN.{length};
-
-// Room for a job that is one byte longer than the longest.
-const JOB_ROOM: usize = 81951;
 
 fn write_answer(bytes: &[u8]) {
     let mut out = [0u8; 32768];
@@ -32,17 +30,17 @@ fn next_length() -> usize {
     let mut head = [0u8; 4];
     let n = io::read_full(0, &mut head);
     if n < 4 {
-        return JOB_ROOM + 1;
+        return INPUT_ROOM + 1;
     }
     number::u32_at(&head, 0) as usize
 }
 
 fn answer_one() -> bool {
     let length = next_length();
-    if length > JOB_ROOM {
+    if length > INPUT_ROOM {
         return false;
     }
-    let mut input = [0u8; JOB_ROOM];
+    let mut input = [0u8; INPUT_ROOM];
     answer_next(length, &mut input);
     true
 }
