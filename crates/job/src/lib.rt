@@ -15,7 +15,7 @@ ghost use Rattle.job_output.specs.Output.{written, Parts};
 ghost use Rattle.cmap.specs.Cmap.{answerOf, outputOf};
 ghost use Rattle.job.specs.Answered.{room, answered, replyOf, replyTo, leftBy};
 
-// One byte more than the longest job: what is longer is damaged, whatever follows.
+// One byte more than the longest job: what is longer is damaged, whatever follows (`enough-read`).
 pub const INPUT_ROOM: usize = 81951;
 
 // What an answer is told as.
