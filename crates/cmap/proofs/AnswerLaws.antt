@@ -39,11 +39,11 @@ result-length j p =
 abbrev ten : Job → ℕ → List Case
 ten j room = (10, ltb room (length (result j))) ∷ []
 
-number-refused : (j : Job) (room : ℕ) → 0 < refusalOf j → numberIn j room ≡ refusalOf j
+pub number-refused : (j : Job) (room : ℕ) → 0 < refusalOf j → numberIn j room ≡ refusalOf j
 unfolding numberIn refusalOf
 number-refused j room h = first-stays (refusals j) (ten j room) h
 
-number-passed : (j : Job) (room : ℕ) → refusalOf j ≡ 0 → numberIn j room ≡ pick (ltb room (length (result j))) 10 0
+pub number-passed : (j : Job) (room : ℕ) → refusalOf j ≡ 0 → numberIn j room ≡ pick (ltb room (length (result j))) 10 0
 unfolding numberIn refusalOf rises
 number-passed j room e = first-append (refusals j) (ten j room) refl e
 

@@ -1,3 +1,4 @@
 pub mod AnswerLaws
 pub mod FateLaws
+pub mod PromiseLaws
 pub mod ReadBackLaws

@@ -18,7 +18,7 @@ use Rattle.cmap.specs.declared.Answer.{Answer}
 use Rattle.cmap.specs.declared.Answer.the-variants.{Written, Refused, NoRoom}
 use Rattle.cmap.specs.Cmap.{result, answerOf, outputOf}
 use Rattle.job.specs.Answered.{room, told, answered, replyOf, replyTo, leftBy}
-use Rattle.job.proofs.CmapLaws.{written-fits, written-front}
+use Rattle.cmap.proofs.PromiseLaws.{written-fits, written-front}
 
 -- ---- the lists that are lent
 

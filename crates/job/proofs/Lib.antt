@@ -1,2 +1,1 @@
-pub mod CmapLaws
 pub mod AnsweredLaws

@@ -1,0 +1,103 @@
+-- What the promise of the call comes to: each number exactly when it is due, nothing written by a refusal, the result and the output's rest by an acceptance, and one answer only.
+use Prim.Native.Nat.{ℕ, _+_, _<_, _≤_}
+use mathlib.Core.Path.{_≡_, refl, sym, ap, subst, _∙_}
+use mathlib.Core.List.{List, [], _∷_, _++_}
+use mathlib.Core.Bool.{Bool, true, false}
+use native.Mathlib.Omega.{arith}
+use lib.Dec.{ltb, eqb}
+use lib.ListN.{length, take, drop, length-append}
+use lib.Seq.{take-at}
+use borrow.Author.Tests.{eqb-true, ltb-false, ne-eqb}
+use Rattle.laws.specs.Choice.{pick}
+use Rattle.laws.proofs.ChoiceLaws.{by-pick, by-leb}
+use Rattle.listing.specs.Job.{Job}
+use Rattle.plan.specs.Plan.{plan}
+use Rattle.result.specs.Result.{written}
+use Rattle.result.specs.Refusal.{Case, firstOf, refusalOf, rises}
+use Rattle.result.proofs.RefusalLaws.{Given, given-exactly, Accepted, accepted-exactly}
+use Rattle.cmap.specs.declared.Answer.{Answer}
+use Rattle.cmap.specs.declared.Answer.the-variants.{Written, Refused, NoRoom}
+use Rattle.cmap.specs.Cmap.{numberOf, lengthOf, result, refusalsIn, numberIn, answerOf, laid, outputOf}
+use Rattle.cmap.proofs.AnswerLaws.{number-refused, number-passed}
+
+-- ---- the number
+
+all-rise : (j : Job) (room : ℕ) → rises 0 (refusalsIn j room) ≡ true
+unfolding rises
+all-rise j room = refl
+
+-- a refusal's number is given exactly when its condition holds and none before it does
+pub numbered-exactly : (j : Job) (room : ℕ) (front back : List Case) (n : ℕ) (b : Bool) → refusalsIn j room ≡ front ++ ((n, b) ∷ back) → Given (numberIn j room) front n b
+unfolding numberIn
+numbered-exactly j room front back n b e =
+    let r = subst (λ (cs : List Case). rises 0 cs ≡ true) e (all-rise j room) in
+    subst (λ (cs : List Case). Given (firstOf cs) front n b) (sym e) (given-exactly front back n b r)
+
+-- an acceptance exactly where no condition holds
+pub accepted-exactly-in : (j : Job) (room : ℕ) → Accepted (numberIn j room) (refusalsIn j room)
+unfolding numberIn
+accepted-exactly-in j room = accepted-exactly (refusalsIn j room) (all-rise j room)
+
+-- the answer's own number
+pub number-answered : (j : Job) (room : ℕ) → numberOf (answerOf j room) ≡ numberIn j room
+unfolding answerOf
+number-answered j room =
+    let n = numberIn j room in
+    let accepted = Written (length (result j)) (written (plan j)) in
+    let short = NoRoom (length (result j)) in
+    by-pick (λ a. numberOf a ≡ n) (eqb n 0) accepted (pick (eqb n 10) short (Refused n))
+    (λ e. sym (eqb-true n 0 e))
+    (λ e. by-pick (λ a. numberOf a ≡ n) (eqb n 10) short (Refused n) (λ f. sym (eqb-true n 10 f)) (λ f. refl))
+
+-- ---- an acceptance
+
+accepted-passed : (j : Job) (room : ℕ) → numberIn j room ≡ 0 → refusalOf j ≡ 0
+accepted-passed j room e =
+    by-leb (refusalOf j ≡ 0) 1 (refusalOf j)
+    (λ h. absurd (omega (arith, h, sym (number-refused j room h) ∙ e)))
+    (λ h. omega arith)
+
+pub accepted-fits : (j : Job) (room : ℕ) → numberIn j room ≡ 0 → length (result j) ≤ room
+accepted-fits j room e =
+    let q = sym (number-passed j room (accepted-passed j room e)) ∙ e in
+    ltb-false room (length (result j)) (go (ltb room (length (result j))) q)
+  where
+    go : (t : Bool) → _≡_ {A = ℕ} (pick t 10 0) 0 → t ≡ false
+    go true f = absurd (omega arith)
+    go false f = refl
+
+module _ (j : Job) (out : List ℕ) where
+  pub accepted-output : numberIn j (length out) ≡ 0 → outputOf j out ≡ laid (result j) out
+  unfolding outputOf
+  accepted-output e = rw e
+
+  pub refused-output : 0 < numberIn j (length out) → outputOf j out ≡ out
+  unfolding outputOf
+  refused-output h = rw (ne-eqb (numberIn j (length out)) 0 (λ z. omega (arith, h, z)))
+
+  module _ (n k : ℕ) (w : answerOf j (length out) ≡ Written n k) where
+    accepted : numberIn j (length out) ≡ 0
+    accepted = sym (number-answered j (length out)) ∙ ap numberOf w
+
+    pub written-length : n ≡ length (result j)
+    unfolding answerOf
+    written-length =
+        let f : answerOf j (length out) ≡ Written (length (result j)) (written (plan j)) = rw accepted in
+        ap lengthOf (sym w ∙ f)
+
+    -- what is written stands in the first places
+    pub written-fits : n ≤ length (outputOf j out)
+    written-fits = rw (accepted-output accepted, written-length) (omega (arith, length-append (result j) (drop (length (result j)) out)))
+
+    pub written-front : take n (outputOf j out) ≡ result j
+    written-front = rw (accepted-output accepted, written-length) (take-at (result j) (drop (length (result j)) out) (length (result j)) refl)
+
+-- ---- one answer only
+
+-- what the promise allows
+pub record Allowed (j : Job) (out : List ℕ) (a : Answer) (fin : List ℕ) : Type 0 where
+  pub answer : a ≡ answerOf j (length out)
+  pub output : fin ≡ outputOf j out
+
+pub allowed-once : {j : Job} {out : List ℕ} {a b : Answer} {fin last : List ℕ} → Allowed j out a fin → Allowed j out b last → (a ≡ b) × (fin ≡ last)
+allowed-once x y = (x .answer ∙ sym (y .answer), x .output ∙ sym (y .output))
