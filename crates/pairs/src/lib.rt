@@ -1,0 +1,28 @@
+// The pairs as a host lends them: one slice of records, copied into two slices of numbers.
+ghost use mathlib.Core.Path.{_≡_};
+ghost use Prim.Native.Nat.{_≤_};
+ghost use lib.ListN.{length};
+ghost use Rattle.cmap.specs.Cmap.{laid};
+ghost use Rattle.pairs.specs.Pairs.{codesOf, glyphsOf};
+
+// A listed code point and its new glyph.
+#[repr(C)]
+pub struct Pair {
+    pub code: u32,
+    pub glyph: u16,
+}
+
+// The proof is by hand: a function that holds a slice of structs is not covered.
+pub fn copy_pairs(pairs: &[Pair], codes: &mut [u32], glyphs: &mut [u16])
+    requires { ⌜ (length (now pairs) ≤ length (now codes)) × (length (now pairs) ≤ length (now glyphs)) ⌝ }
+    ensures { λ _. ⌜ (now (codes .exit) ≡ laid (codesOf (now (pairs .entry))) (now (codes .entry)))
+        × (now (glyphs .exit) ≡ laid (glyphsOf (now (pairs .entry))) (now (glyphs .entry))) ⌝ }
+{
+    let mut i = 0;
+    while i < pairs.len() {
+        let p = pairs[i];
+        codes[i] = p.code;
+        glyphs[i] = p.glyph;
+        i += 1;
+    }
+}
