@@ -1,0 +1,45 @@
+-- The calls over the list of pair records (docs/01-rules.md, "What is lent").
+use Prim.Native.Nat.{ℕ}
+use mathlib.Core.List.{List}
+use mathlib.Core.Bool.{Bool}
+use lib.Dec.{ltb}
+use lib.ListN.{length}
+use Rattle.laws.specs.Choice.{pick, either}
+use Rattle.checks.specs.Checks.{badSizes}
+use Rattle.listing.specs.Job.{Job, job}
+use Rattle.pairs.specs.declared.Pair.{Pair}
+use Rattle.pairs.specs.Pairs.{codesOf, glyphsOf}
+use Rattle.cmap.specs.declared.Answer.{Answer}
+use Rattle.cmap.specs.declared.Answer.the-variants.{Refused}
+use Rattle.cmap.specs.declared.Fate.{Fate}
+use Rattle.cmap.specs.declared.FateKind.the-variants.{Refused as FateRefused}
+use Rattle.cmap.specs.Cmap.{answerOf, outputOf, laid}
+use Rattle.cmap.specs.Fates.{fateOf, noFate}
+
+-- 1: a size is broken, or a slice of the work room has fewer places than there are pairs
+abbrev pub sizesBroken : ℕ → ℕ → ℕ → ℕ → ℕ → ℕ → ℕ → Bool
+sizesBroken source pairs codes glyphs kept n requested =
+    either (ltb codes pairs) (either (ltb glyphs pairs) (badSizes source pairs pairs kept n requested))
+
+module _ (source : List ℕ) (pairs : List Pair) (codes glyphs kept newGlyphs requested : List ℕ) where
+  abbrev pub broken : Bool
+  broken = sizesBroken (length source) (length pairs) (length codes) (length glyphs) (length kept) (length newGlyphs) (length requested)
+
+  abbrev pub jobOf : Job
+  jobOf = job source (codesOf pairs) (glyphsOf pairs) kept newGlyphs requested
+
+  abbrev pub subsetOf : ℕ → Answer
+  subsetOf room = pick broken (Refused 1) (answerOf jobOf room)
+
+  abbrev pub recordFateOf : ℕ → Fate
+  recordFateOf k = pick broken (noFate (FateRefused 1)) (fateOf jobOf k)
+
+  -- 1 leaves the work room; any other answer has the code points and the glyphs in its first places
+  abbrev pub codesAfter : List ℕ
+  codesAfter = pick broken codes (laid (codesOf pairs) codes)
+
+  abbrev pub glyphsAfter : List ℕ
+  glyphsAfter = pick broken glyphs (laid (glyphsOf pairs) glyphs)
+
+  abbrev pub outAfter : List ℕ → List ℕ
+  outAfter out = pick broken out (outputOf jobOf out)
