@@ -239,3 +239,78 @@ pub extern "C" fn cmap_new_head(table: &[u8], c: u32) -> HeadAnswer
 {
     tell_head(heads::new_head(table, c))
 }
+
+// ---- the calls, by hand: whoever holds a slice of records is not covered (tools/entry writes the two proofs)
+
+#[no_mangle]
+pub extern "C" fn cmap_subset(
+    source: &[u8],
+    pairs: &[Pair],
+    codes: &mut [u32],
+    glyphs: &mut [u16],
+    kept: &[u32],
+    map: &[u16],
+    requested: &[u16],
+    out: &mut [u8],
+) -> SubsetAnswer
+    ensures { λ r. ⌜ (r ≡ told (subsetOf (now (source .entry)) (now (pairs .entry)) (now (codes .entry)) (now (glyphs .entry)) (now (kept .entry)) (now (map .entry)) (now (requested .entry)) (length (now (out .entry)))))
+        × (now (codes .exit) ≡ codesAfter (now (source .entry)) (now (pairs .entry)) (now (codes .entry)) (now (glyphs .entry)) (now (kept .entry)) (now (map .entry)) (now (requested .entry)))
+        × (now (glyphs .exit) ≡ glyphsAfter (now (source .entry)) (now (pairs .entry)) (now (codes .entry)) (now (glyphs .entry)) (now (kept .entry)) (now (map .entry)) (now (requested .entry)))
+        × (now (out .exit) ≡ outAfter (now (source .entry)) (now (pairs .entry)) (now (codes .entry)) (now (glyphs .entry)) (now (kept .entry)) (now (map .entry)) (now (requested .entry)) (now (out .entry))) ⌝ }
+{
+    let n = pairs.len();
+    if sizes_broken(
+        source.len(),
+        n,
+        codes.len(),
+        glyphs.len(),
+        kept.len(),
+        map.len(),
+        requested.len(),
+    ) {
+        return SubsetAnswer {
+            number: 1,
+            length: 0,
+            records: 0,
+        };
+    }
+    pairs::copy_pairs(pairs, codes, glyphs);
+    subset_on_room(source, codes, glyphs, n, kept, map, requested, out)
+}
+
+#[no_mangle]
+pub extern "C" fn cmap_fate(
+    source: &[u8],
+    pairs: &[Pair],
+    codes: &mut [u32],
+    glyphs: &mut [u16],
+    kept: &[u32],
+    map: &[u16],
+    requested: &[u16],
+    k: usize,
+) -> FateAnswer
+    ensures { λ r. ⌜ (r ≡ toldFate (recordFateOf (now (source .entry)) (now (pairs .entry)) (now (codes .entry)) (now (glyphs .entry)) (now (kept .entry)) (now (map .entry)) (now (requested .entry)) k))
+        × (now (codes .exit) ≡ codesAfter (now (source .entry)) (now (pairs .entry)) (now (codes .entry)) (now (glyphs .entry)) (now (kept .entry)) (now (map .entry)) (now (requested .entry)))
+        × (now (glyphs .exit) ≡ glyphsAfter (now (source .entry)) (now (pairs .entry)) (now (codes .entry)) (now (glyphs .entry)) (now (kept .entry)) (now (map .entry)) (now (requested .entry))) ⌝ }
+{
+    let n = pairs.len();
+    if sizes_broken(
+        source.len(),
+        n,
+        codes.len(),
+        glyphs.len(),
+        kept.len(),
+        map.len(),
+        requested.len(),
+    ) {
+        return FateAnswer {
+            number: 1,
+            platform: 0,
+            encoding: 0,
+            kind: 7,
+            offset: 0,
+        };
+    }
+    pairs::copy_pairs(pairs, codes, glyphs);
+    fate_on_room(source, codes, glyphs, n, kept, map, requested, k)
+}
