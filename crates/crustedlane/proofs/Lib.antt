@@ -1,2 +1,3 @@
+pub mod OneLaws
 pub mod SizesLaws
 pub mod TellLaws
