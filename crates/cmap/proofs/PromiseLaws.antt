@@ -5,18 +5,27 @@ use mathlib.Core.List.{List, [], _∷_, _++_}
 use mathlib.Core.Bool.{Bool, true, false}
 use native.Mathlib.Omega.{arith}
 use lib.Dec.{ltb, eqb}
-use lib.ListN.{length, take, drop, length-append}
+use lib.ListN.{length, getD, take, drop, length-append}
 use lib.Seq.{take-at}
-use borrow.Author.Tests.{eqb-true, ltb-false, ne-eqb}
+use borrow.Author.Tests.{eqb-true, ltb-true, ltb-false, ne-eqb}
 use Rattle.laws.specs.Choice.{pick}
-use Rattle.laws.proofs.ChoiceLaws.{by-pick, by-leb}
+use Rattle.laws.proofs.ChoiceLaws.{by-pick, by-leb, false-true}
+use Rattle.laws.proofs.SomeLaws.{some-false}
+use Rattle.number.specs.Limits.{recordsMax}
+use Rattle.source.specs.Header.{recordCount}
+use Rattle.source.proofs.HeaderLaws.{accepted-of}
 use Rattle.listing.specs.Job.{Job}
-use Rattle.plan.specs.Plan.{plan}
-use Rattle.result.specs.Result.{written}
+use Rattle.plan.specs.declared.Outcome.{Outcome}
+use Rattle.plan.specs.declared.Outcome.the-variants.{NotRetained, Skipped, Empty, TooLong, Covered, BadMapping, Served, Made}
+use Rattle.plan.specs.Plan.{plan, isBad, refused8}
+use Rattle.result.specs.Result.{at, written}
 use Rattle.result.specs.Refusal.{Case, firstOf, refusalOf, rises}
-use Rattle.result.proofs.RefusalLaws.{Given, given-exactly, Accepted, accepted-exactly}
+use Rattle.result.proofs.RefusalLaws.{Given, given-exactly, Accepted, accepted-exactly, passed}
 use Rattle.cmap.specs.declared.Answer.{Answer}
 use Rattle.cmap.specs.declared.Answer.the-variants.{Written, Refused, NoRoom}
+use Rattle.cmap.specs.declared.Fate.{Fate}
+use Rattle.cmap.specs.declared.FateKind.the-variants.{Refused as FateRefused, NoSuchRecord}
+use Rattle.cmap.specs.Fates.{numberOf as fateNumberOf, kindOf, recordFate, noFate, fateOf}
 use Rattle.cmap.specs.Cmap.{numberOf, lengthOf, result, refusalsIn, numberIn, answerOf, laid, outputOf}
 use Rattle.cmap.proofs.AnswerLaws.{number-refused, number-passed}
 
@@ -101,3 +110,34 @@ pub record Allowed (j : Job) (out : List ℕ) (a : Answer) (fin : List ℕ) : Ty
 
 pub allowed-once : {j : Job} {out : List ℕ} {a b : Answer} {fin last : List ℕ} → Allowed j out a fin → Allowed j out b last → (a ≡ b) × (fin ≡ last)
 allowed-once x y = (x .answer ∙ sym (y .answer), x .output ∙ sym (y .output))
+
+-- ---- the number of a fate
+
+kind-number : (os : List Outcome) (o : Outcome) (k : ℕ) → isBad o ≡ false → fateNumberOf (kindOf os o k) ≡ 0
+kind-number os NotRetained k e = refl
+kind-number os Skipped k e = refl
+kind-number os Empty k e = refl
+kind-number os TooLong k e = refl
+kind-number os Covered k e = refl
+kind-number os BadMapping k e = absurd (false-true (sym e))
+kind-number os (Served by) k e = refl
+kind-number os (Made size) k e = refl
+
+-- it is the job's refusal, and 0 where there is none: refusal 8 leaves no bad mapping
+pub fate-number : (j : Job) (k : ℕ) → fateNumberOf (fateOf j k .kind) ≡ refusalOf j
+unfolding fateOf refused8
+fate-number j k =
+    let os = plan j in
+    let count = recordCount (j .source) in
+    let P : Fate → Type 0 = λ f. fateNumberOf (f .kind) ≡ refusalOf j in
+    by-pick P (eqb (refusalOf j) 0) (pick (ltb k count) (recordFate (j .source) os k) (noFate NoSuchRecord)) (noFate (FateRefused (refusalOf j)))
+    (λ e.
+    let z = eqb-true (refusalOf j) 0 e in
+    let p = passed j z in
+    let few = accepted-of (j .source) (p .header) .few in
+    by-pick P (ltb k count) (recordFate (j .source) os k) (noFate NoSuchRecord)
+    (λ l.
+    let h = ltb-true k count l in
+    kind-number os (at os k) k (some-false (λ i. isBad (getD os i NotRetained)) recordsMax 0 (p .mappings) k (omega arith) (omega (arith, h, few))) ∙ sym z)
+    (λ l. sym z))
+    (λ e. refl)

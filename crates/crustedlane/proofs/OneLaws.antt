@@ -1,5 +1,4 @@
 -- 1 is told exactly where a size is broken, so what is left in the work room goes by the number told (docs/01-rules.md, "What is lent").
--- Which number the core answers with is a premise here: that of `numberIn`, and of `refusalOf` for the fates.
 use Prim.Native.Nat.{ℕ}
 use mathlib.Core.Path.{_≡_, refl, sym, ap, _∙_}
 use mathlib.Core.List.{List, [], _∷_}
@@ -19,6 +18,7 @@ use Rattle.cmap.specs.declared.Answer.the-variants.{Refused}
 use Rattle.cmap.specs.declared.FateKind.the-variants.{Refused as FateRefused}
 use Rattle.cmap.specs.Cmap.{numberOf, refusalsIn, numberIn, answerOf, laid}
 use Rattle.cmap.specs.Fates.{numberOf as fateNumberOf, noFate, fateOf}
+use Rattle.cmap.proofs.PromiseLaws.{number-answered, fate-number}
 use Rattle.crustedlane.specs.Calls.{broken, jobOf, subsetOf, recordFateOf, codesAfter, glyphsAfter}
 
 -- ---- 1 stands first among the refusals, and nowhere else
@@ -75,12 +75,12 @@ module _ (source : List ℕ) (pairs : List Pair) (codes glyphs kept newGlyphs re
   of-job e = columns-broken (first-one _ (later (refusals j)) refl e)
 
   -- the cut
-  module _ (room : ℕ) (core : numberOf (answerOf j room) ≡ numberIn j room) where
+  module _ (room : ℕ) where
     abbrev told1 : Bool
     told1 = eqb (numberOf (subsetOf source pairs codes glyphs kept newGlyphs requested room)) 1
 
     pub one-exactly : told1 ≡ bad
-    one-exactly = by-number bad (λ t. numberOf (pick t (Refused 1) (answerOf j room))) refl (λ q. in-room room (sym core ∙ q))
+    one-exactly = by-number bad (λ t. numberOf (pick t (Refused 1) (answerOf j room))) refl (λ q. in-room room (sym (number-answered j room) ∙ q))
 
     pub codes-left : codesAfter source pairs codes glyphs kept newGlyphs requested ≡ pick told1 codes (laid (codesOf pairs) codes)
     codes-left = ap (λ (t : Bool). pick t codes (laid (codesOf pairs) codes)) (sym one-exactly)
@@ -89,6 +89,5 @@ module _ (source : List ℕ) (pairs : List Pair) (codes glyphs kept newGlyphs re
     glyphs-left = ap (λ (t : Bool). pick t glyphs (laid (glyphsOf pairs) glyphs)) (sym one-exactly)
 
   -- the fates
-  pub one-exactly-fate : (k : ℕ) → fateNumberOf (fateOf j k .kind) ≡ refusalOf j
-      → eqb (fateNumberOf (recordFateOf source pairs codes glyphs kept newGlyphs requested k .kind)) 1 ≡ bad
-  one-exactly-fate k core = by-number bad (λ t. fateNumberOf (pick t (noFate (FateRefused 1)) (fateOf j k) .kind)) refl (λ q. of-job (sym core ∙ q))
+  pub one-exactly-fate : (k : ℕ) → eqb (fateNumberOf (recordFateOf source pairs codes glyphs kept newGlyphs requested k .kind)) 1 ≡ bad
+  one-exactly-fate k = by-number bad (λ t. fateNumberOf (pick t (noFate (FateRefused 1)) (fateOf j k) .kind)) refl (λ q. of-job (sym (fate-number j k) ∙ q))
