@@ -1,16 +1,15 @@
 -- Both heads give of a result what the job lists: the first record of the result that leads to a format is the first of the source that made a table of it.
-use Prim.Native.Nat.{ℕ, _+_, _<_, _≤_}
+use Prim.Native.Nat.{ℕ, _<_, _≤_}
 use mathlib.Core.Path.{_≡_, refl, sym, ap, _∙_}
 use mathlib.Core.List.{List}
-use mathlib.Core.Bool.{Bool, true, false}
+use mathlib.Core.Bool.{true, false}
 use native.Mathlib.Nat.{zero-add}
 use native.Mathlib.Omega.{arith}
 use lib.Dec.{eqb}
 use Rattle.laws.specs.Listed.{listedGlyph}
 use Rattle.laws.specs.Search.{first}
 use Rattle.laws.proofs.ChoiceLaws.{by-leb, both-left, both-right, false-true, not-true, if-lt, else-lt}
-use Rattle.laws.proofs.FirstBeforeLaws.{first-before}
-use Rattle.laws.proofs.SeekingLaws.{first-holds}
+use Rattle.laws.proofs.FirstLaws.{first-before, first-holds}
 use Rattle.laws.proofs.StandsLaws.{Stands}
 use Rattle.source.specs.Header.{offsetOf}
 use Rattle.source.specs.Kind.{kindAt, formatOf}
@@ -18,7 +17,6 @@ use Rattle.records.specs.Records.{leadsTo, leadsToFormat}
 use Rattle.listing.specs.Job.{Job}
 use Rattle.lookup.specs.declared.Found.{Found}
 use Rattle.lookup.specs.Lookup.{lookup4, lookup12, glyphOf}
-use Rattle.heads.specs.declared.Answer.{Answer}
 use Rattle.heads.specs.declared.Answer.the-variants.{Glyph, Refused}
 use Rattle.heads.specs.Heads.{oldHead, newHead}
 use Rattle.heads.specs.Heads.{leadsTo as headLeadsTo}
@@ -28,8 +26,8 @@ use Rattle.plan.specs.declared.Outcome.the-variants.{NotRetained, Skipped, Empt
 use Rattle.plan.specs.Plan.{listedOf, tableOf, isMade}
 use Rattle.result.specs.Result.{isWritten, makerOf, at, countFrom, written, resultOf}
 use Rattle.result.specs.Result.{offsetOf as offsetIn}
-use Rattle.result.proofs.CountLaws.{Ith, count-one, count-find}
-use Rattle.result.proofs.PlacesLaws.{Sound, Maker, Entry, made-written, written-below, table-stands, accepted-result, maker-of, entry-written}
+use Rattle.result.proofs.CountLaws.{count-one, count-find}
+use Rattle.result.proofs.PlacesLaws.{Sound, made-written, table-stands, accepted-result, maker-of, entry-written}
 use Rattle.result.specs.Result.{makes}
 use Rattle.answers.specs.Answers.{answerBy, oldAnswer, newAnswer}
 
@@ -101,10 +99,10 @@ module _ (j : Job) (os : List Outcome) (s : Sound j os) where
 
   -- ---- the heads
 
-  module _ (t4 : Reads 4 lookup4 j os) (t12 : Reads 12 lookup12 j os) (c : ℕ) where
-    pub old-answer : oldHead (resultOf j os) c ≡ oldAnswer j os c
+  module _ (t4 : Reads 4 lookup4 j os) where
+    pub old-answer : (c : ℕ) → oldHead (resultOf j os) c ≡ oldAnswer j os c
     unfolding answerBy
-    old-answer =
+    old-answer c =
         let r = first (makes j os 4) 64 0 in
         by-leb (oldHead (resultOf j os) c ≡ oldAnswer j os c) 64 r
         (λ h. else-lt r 64 (Glyph (listedGlyph (listedOf j r) c)) (Refused 11) h (old-none (resultOf j os) (written os) (accepted-result j os s) c (leaderless 4 lookup4 t4 h)))
@@ -113,12 +111,12 @@ module _ (j : Job) (os : List Outcome) (s : Sound j os) where
         if-lt r 64 (Glyph (listedGlyph (listedOf j r) c)) (Refused 11) h
         (old-first (resultOf j os) (written os) (accepted-result j os s) c (countFrom os r 0) (d .inside) (d .leads) (d .none) ∙ ap Glyph (d .gives c)))
 
-    pub new-answer : newHead (resultOf j os) c ≡ newAnswer j os c
+    pub new-answer : (t12 : Reads 12 lookup12 j os) (c : ℕ) → newHead (resultOf j os) c ≡ newAnswer j os c
     unfolding answerBy
-    new-answer =
+    new-answer t12 c =
         let r = first (makes j os 12) 64 0 in
         by-leb (newHead (resultOf j os) c ≡ newAnswer j os c) 64 r
-        (λ h. else-lt r 64 (Glyph (listedGlyph (listedOf j r) c)) (oldAnswer j os c) h (new-as-old (resultOf j os) (written os) (accepted-result j os s) c (leaderless 12 lookup12 t12 h) ∙ old-answer))
+        (λ h. else-lt r 64 (Glyph (listedGlyph (listedOf j r) c)) (oldAnswer j os c) h (new-as-old (resultOf j os) (written os) (accepted-result j os s) c (leaderless 12 lookup12 t12 h) ∙ old-answer c))
         (λ h.
         let d = leader 12 lookup12 t12 r refl h in
         if-lt r 64 (Glyph (listedGlyph (listedOf j r) c)) (oldAnswer j os c) h

@@ -1,19 +1,21 @@
 -- The case by computation: the job is accepted, its result is the source's bytes, and both heads answer.
-use Prim.Native.Nat.{ℕ}
+use Prim.Native.Nat.{_<_}
 use mathlib.Core.Path.{_≡_, refl, ap, _∙_}
-use mathlib.Core.List.{List, [], _∷_}
-use lib.ListN.{set, replicate}
+use native.Mathlib.Omega.{arith}
+use lib.ListN.{length, getD, set, replicate, List·getD-eq-default}
 use Rattle.laws.specs.Choice.{ifLt, ifLe, ifEq}
 use Rattle.laws.specs.Search.{first, some}
 use Rattle.laws.specs.Select.{each, select, anyOf, flat}
 use Rattle.laws.specs.Pieces.{pieces, concat}
-use Rattle.number.specs.BigEndian.{be, enc}
+use Rattle.laws.proofs.ChoiceLaws.{by-leb}
+use Rattle.number.specs.BigEndian.{be, enc, Bytes}
 use Rattle.number.specs.Row.{encs}
 use Rattle.source.specs.Header.{refused5}
 use Rattle.source.specs.Kind.{kindAt}
 use Rattle.records.specs.Records.{leadsTo, bmpPair, fullPair, retained, someRetained}
 use Rattle.marks.specs.Marks.{below, holds}
 use Rattle.checks.specs.Checks.{badSizes, falls, exceeds, lacks}
+use Rattle.checks.proofs.ChecksLaws.{at-most}
 use Rattle.mapped4.specs.Mapped4.{entry4, says4, lastSays, maps4}
 use Rattle.listing.specs.Listing.{maps, listed}
 use Rattle.covering.specs.Covered.{covered, siblingCovers}
@@ -32,6 +34,14 @@ use Rattle.answers.specs.Case.{bytes, job}
 plan-case : plan job ≡ set (replicate 64 NotRetained) 0 (Made 32)
 unfolding ifLt ifLe ifEq first some each select anyOf pieces concat be enc encs kindAt leadsTo bmpPair fullPair retained entry4 says4 lastSays maps4 maps listed covered siblingCovers commitRun cutRuns cuts segments glyphArray arrayFrom offsetsFrom sizeOf fresh serves server retainedOutcome outcomeOf outcomes plan
 plan-case = refl
+
+-- its premises hold, so the theorem is not empty
+pub bytes-case : Bytes (job .source)
+unfolding exceeds some
+bytes-case i =
+    by-leb (getD bytes i 0 < 256) (length bytes) i
+    (λ h. rw (List·getD-eq-default bytes 0 {n = i} h) (omega arith))
+    (λ h. omega (arith, at-most 255 bytes refl i h))
 
 pub accepted-case : refusalOf job ≡ 0
 unfolding ifLt ifLe ifEq first some anyOf be refused5 kindAt leadsTo bmpPair fullPair retained someRetained below holds badSizes falls exceeds lacks refused8 refused9 refusalOf

@@ -1,20 +1,20 @@
 -- What both heads give of the result of a job that is not refused.
-use Prim.Native.Nat.{ℕ, zero, suc, _<_, _≤_}
+use Prim.Native.Nat.{ℕ, _≤_}
 use mathlib.Core.Path.{_≡_, refl, sym, ap, _∙_}
 use mathlib.Core.List.{List}
 use mathlib.Core.Logic.{_⊎_, inl, inr, ⊎-elim}
-use mathlib.Core.Bool.{Bool, true, false, not}
+use mathlib.Core.Bool.{true, false}
 use native.Mathlib.Omega.{arith}
 use lib.Dec.{ltb}
 use lib.ListN.{length}
-use Rattle.laws.specs.Choice.{pick, both, either, ifLt}
+use Rattle.laws.specs.Choice.{ifLt}
 use Rattle.laws.specs.Lists.{pairs}
 use Rattle.laws.specs.Listed.{listedGlyph}
 use Rattle.laws.specs.Search.{first, some}
 use Rattle.laws.proofs.ChoiceLaws.{by-pick, by-leb, false-true, if-lt, else-lt}
-use Rattle.laws.proofs.EitherLaws.{true-of-not}
-use Rattle.laws.proofs.FirstBeforeLaws.{first-before}
-use Rattle.laws.proofs.SomeLaws.{some-snoc}
+use Rattle.laws.proofs.EitherLaws.{true-of-not, both-neither}
+use Rattle.laws.proofs.FirstLaws.{first-before}
+use Rattle.laws.proofs.SomeLaws.{some-none}
 use Rattle.number.specs.BigEndian.{Bytes}
 use Rattle.source.specs.Header.{recordCount}
 use Rattle.source.specs.Kind.{formatOf}
@@ -33,7 +33,7 @@ use Rattle.made.proofs.ListedLaws.{listed-glyph}
 use Rattle.result.specs.Refusal.{refusalOf}
 use Rattle.result.specs.Result.{isWritten, makerOf, at, resultOf, resultLength, written}
 use Rattle.result.proofs.PlacesLaws.{Sound, maker-of, length-result, accepted-result}
-use Rattle.result.proofs.RefusalLaws.{Passed, passed}
+use Rattle.result.proofs.RefusalLaws.{passed}
 use Rattle.result.specs.Result.{makes}
 use Rattle.answers.specs.Answers.{answerBy, oldAnswer, newAnswer}
 use Rattle.answers.proofs.AnswersLaws.{old-answer, new-answer}
@@ -67,24 +67,14 @@ new-may j os c = answer-prints 12 j os c (oldAnswer j os c) (old-may j os c)
 
 -- ---- where a record made a table that counts, the new head is not at a loss
 
-none-some : (p : ℕ → Bool) (n : ℕ) → ((k : ℕ) → k < n → p k ≡ false) → some p n 0 ≡ false
-unfolding some
-none-some p zero h = refl
-none-some p (suc n) h = rw (some-snoc p n, h n (omega arith)) (none-some p n (λ k l. h k (omega arith)))
-
-neither-counts : (a b c : Bool) → both a b ≡ false → both a c ≡ false → both a (either b c) ≡ false
-neither-counts true true c e f = e
-neither-counts true false c e f = f
-neither-counts false b c e f = refl
-
 module _ (j : Job) (os : List Outcome) (few : recordCount (j .source) ≤ 64) (some9 : refused9 (j .source) os ≡ false) where
   not-lost : 64 ≤ first (makes j os 4) 64 0 → 64 ≤ first (makes j os 12) 64 0 → ⊥
   unfolding refused9
   not-lost a b =
       let e = true-of-not (some (counts (j .source) os) (recordCount (j .source)) 0) some9 in
-      let f = none-some (counts (j .source) os) (recordCount (j .source))
+      let f = some-none (counts (j .source) os) (recordCount (j .source))
       (λ k h.
-      neither-counts (isMade (at os k)) (leadsToFormat 4 (j .source) k) (leadsToFormat 12 (j .source) k)
+      both-neither (isMade (at os k)) (leadsToFormat 4 (j .source) k) (leadsToFormat 12 (j .source) k)
       (first-before (makes j os 4) 64 k (omega arith) (omega arith))
       (first-before (makes j os 12) 64 k (omega arith) (omega arith))) in
       false-true (sym f ∙ e)
@@ -130,7 +120,7 @@ module _ (j : Job) (bytes : Bytes (j .source)) (accepted : refusalOf j ≡ 0) wh
 
   module _ (c : ℕ) where
     pub old-gives : oldHead (resultOf j (plan j)) c ≡ oldAnswer j (plan j) c
-    old-gives = old-answer j (plan j) job-sound (plan-reads4 j limits records-few) (plan-reads12 j limits records-few) c
+    old-gives = old-answer j (plan j) job-sound (plan-reads4 j limits records-few) c
 
     pub new-gives : newHead (resultOf j (plan j)) c ≡ newAnswer j (plan j) c
     new-gives = new-answer j (plan j) job-sound (plan-reads4 j limits records-few) (plan-reads12 j limits records-few) c

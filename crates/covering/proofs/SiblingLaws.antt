@@ -1,15 +1,14 @@
 -- The sibling of a record: its test read off the code's answers, and the search for the first.
-use Prim.Native.Nat.{ℕ, _+_, _<_, _≤_}
-use mathlib.Core.Path.{_≡_, refl, sym, ap, _∙_}
+use Prim.Native.Nat.{ℕ}
+use mathlib.Core.Path.{_≡_}
 use mathlib.Core.List.{List}
 use mathlib.Core.Bool.{Bool, true, false}
-use native.Mathlib.Omega.{arith}
 use lib.Dec.{eqb}
-use Rattle.laws.specs.Search.{first}
-use Rattle.laws.proofs.SearchLaws.{Looking, looking-start, looking-on, looking-found, looking-none}
+use Rattle.laws.proofs.SearchLaws.{Finding, looking-start, looks}
+use Rattle.source.specs.Header.{recordCount}
 use Rattle.source.specs.declared.Kind.{Kind}
-use Rattle.source.specs.declared.Kind.the-variants.{Format4, Format12, Format14, Unreadable}
-use Rattle.records.specs.Records.{leadsTo, Placed, Counted}
+use Rattle.source.specs.declared.Kind.the-variants.{Format4, Format12}
+use Rattle.records.specs.Records.{leadsTo, Counted}
 use Rattle.records.proofs.RecordsLaws.{placed}
 use Rattle.covering.specs.Covered.{siblingPair, languageOf, speaks, isSibling, firstSibling}
 
@@ -34,23 +33,9 @@ module _ (xs : List ℕ) (k i : ℕ) (t : Bool) where
 
 pub ruleset sibling = (sibling-no, sibling-then)
 
-pub record Seeking (xs : List ℕ) (n k i : ℕ) : Type 0 where
-  pub looks : Looking (isSibling xs k) n i
+-- the search for the first of n records
+pub sibling-start : (xs : List ℕ) (n k : ℕ) → Counted xs n → Finding (isSibling xs k) n 0 (firstSibling xs k)
+unfolding firstSibling
+sibling-start xs n k c = rw (c .is) (looking-start (isSibling xs k) (recordCount xs))
 
-module _ (xs : List ℕ) (n k : ℕ) where
-  pub seeking-start : Seeking xs n k 0
-  seeking-start = record { looks = looking-start (isSibling xs k) n }
-
-  module _ (i : ℕ) where
-    pub seeking-on : (t : Bool) → Seeking xs n k i → i < n → t ≡ isSibling xs k i → t ≡ false → Seeking xs n k (i + 1)
-    seeking-on t l h q e = record { looks = looking-on (l .looks) h (sym q ∙ e) }
-
-    pub seeking-found : (t : Bool) → Counted xs n → Seeking xs n k i → i < n → t ≡ isSibling xs k i → t ≡ true → i ≡ firstSibling xs k
-    unfolding firstSibling
-    seeking-found t c l h q e = rw (c .is) at (looking-found (l .looks) h (sym q ∙ e))
-
-    pub seeking-none : Counted xs n → Seeking xs n k i → n ≤ i → i ≡ firstSibling xs k
-    unfolding firstSibling
-    seeking-none c l h = rw (c .is) at (looking-none (l .looks) h)
-
-pub ruleset seeking = (seeking-start, seeking-on, seeking-found, seeking-none, placed)
+pub ruleset sibling-search = (sibling-start, looks, placed)

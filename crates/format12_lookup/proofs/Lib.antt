@@ -1,6 +1,5 @@
 pub mod LookupLaws
 pub mod BytesLaws
-pub mod Cases
 pub mod Lookup12Laws
 pub mod Format12KindLaws
 pub mod Format12FindsLaws

@@ -10,7 +10,7 @@ use Rattle.laws.specs.Pieces.{concat}
 use Rattle.laws.specs.Select.{eqList}
 use Rattle.laws.specs.Lasts.{lasts, behind}
 use Rattle.laws.proofs.ChoiceLaws.{by-leb}
-use Rattle.laws.proofs.SeekingLaws.{first-from, first-holds, first-none}
+use Rattle.laws.proofs.FirstLaws.{first-from, first-holds, first-none}
 use Rattle.laws.proofs.EqListLaws.{eq-true}
 use Rattle.laws.proofs.LastsLaws.{length-concat}
 use Rattle.selector_tables.specs.ByNumber.{slot, tableMax, Readable}

@@ -10,8 +10,7 @@ use borrow.Author.Tests.{eq-eqb, ne-eqb, lt-ltb, le-ltb}
 use Rattle.laws.specs.Choice.{pick, both, either}
 use Rattle.laws.specs.Select.{each, select, flat}
 use Rattle.laws.specs.Lasts.{lasts, behind}
-use Rattle.laws.proofs.ChoiceLaws.{by-leb, both-left}
-use Rattle.laws.proofs.LastsLaws.{by-test}
+use Rattle.laws.proofs.ChoiceLaws.{by-leb, both-left, by-test}
 use Rattle.laws.proofs.FlatLaws.{flat-map, flat-select}
 use Rattle.laws.proofs.LengthLaws.{length-map}
 use Rattle.laws.proofs.EitherLaws.{neither-left, neither-right}

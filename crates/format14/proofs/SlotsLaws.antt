@@ -9,9 +9,9 @@ use lib.ListN.{length}
 use Rattle.laws.specs.Pieces.{concat}
 use Rattle.laws.specs.Select.{eqList}
 use Rattle.laws.specs.Lasts.{among, lasts, before, behind}
-use Rattle.laws.proofs.ChoiceLaws.{false-true, by-leb}
+use Rattle.laws.proofs.ChoiceLaws.{false-true, by-leb, by-test}
 use Rattle.laws.proofs.EqListLaws.{eq-true, eq-refl}
-use Rattle.laws.proofs.LastsLaws.{by-test, eqList-length, among-here, among-skip, among-there, among-none, lasts-again, lasts-new, among-lasts, behind-here, behind-skip, behind-absent, before-behind, behind-le, length-behind}
+use Rattle.laws.proofs.LastsLaws.{eqList-length, among-here, among-skip, among-there, among-none, lasts-again, lasts-new, among-lasts, behind-here, behind-skip, behind-absent, before-behind, behind-le, length-behind}
 use Rattle.format14.specs.Format14.{there}
 use Rattle.format14.specs.Ends.{from, rest, Written}
 

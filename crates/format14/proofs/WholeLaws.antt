@@ -8,8 +8,8 @@ use lib.ListN.{length, length-append}
 use lib.Seq.{sets}
 use Rattle.laws.specs.Pieces.{concat}
 use Rattle.laws.specs.Select.{each, flat}
-use Rattle.laws.proofs.ChoiceLaws.{by-leb}
-use Rattle.laws.proofs.LastsLaws.{behind-le, by-test}
+use Rattle.laws.proofs.ChoiceLaws.{by-leb, by-test}
+use Rattle.laws.proofs.LastsLaws.{behind-le}
 use Rattle.laws.proofs.LengthLaws.{length-each, length-select}
 use Rattle.laws.proofs.SelectLaws.{length-flat}
 use Rattle.laws.proofs.SetsLaws.{sets-append}

@@ -1,14 +1,13 @@
 -- The lengths of a format 4 subtable's parts, and of its bytes.
 use Prim.Native.Nat.{ℕ, suc, _+_, _*_, _≤_}
-use mathlib.Core.Path.{_≡_, refl, sym, ap, _∙_}
+use mathlib.Core.Path.{_≡_, refl, ap}
 use mathlib.Core.List.{List, [], _∷_, _++_}
 use mathlib.Core.Bool.{Bool, true, false}
 use native.Mathlib.Omega.{arith}
 use lib.Dec.{eqb}
 use lib.ListN.{length, take, drop, length-append, length-map}
 use Rattle.laws.specs.Choice.{pick}
-use Rattle.laws.specs.Lists.{Pair, pairs}
-use Rattle.laws.proofs.PairsLaws.{seconds-pairs}
+use Rattle.laws.specs.Lists.{Pair}
 use Rattle.number.proofs.RowLaws.{length-encs}
 use Rattle.ranges.specs.declared.Segment.{Segment}
 use Rattle.ranges.specs.Steps.{entriesOf}
@@ -47,6 +46,3 @@ length-format4 language ps =
 -- as long as this for so many pairs
 pub length-small : (ps : List Pair) → lengthWith (length (segments ps)) (length (glyphArray ps)) ≤ 24 + 10 * length ps
 length-small ps = omega (arith, segments-few ps, length-array ps, entries-fed (segments ps) (length ps) (segments-fed ps))
-
-pub length-pairs : (cs gs : List ℕ) → length cs ≡ length gs → length (pairs cs gs) ≡ length gs
-length-pairs cs gs e = sym (length-map (pairs cs gs) (λ (p : Pair). p .1)) ∙ ap length (seconds-pairs cs gs e)

@@ -6,7 +6,7 @@ use native.Mathlib.Omega.{arith}
 use lib.ListN.{length}
 use lib.Seq.{sets}
 use Rattle.laws.specs.Lists.{pairs}
-use Rattle.laws.proofs.PairsLaws.{seconds-pairs}
+use Rattle.laws.proofs.PairsLaws.{seconds-pairs, length-even}
 use Rattle.ranges.specs.Steps.{entries}
 use Rattle.format4.specs.declared.RangeCounter.{RangeCounter}
 use Rattle.ranges.specs.Cutting.{segments, glyphArray, arrayFrom}
@@ -15,7 +15,6 @@ use Rattle.format4.specs.Format4.{format4}
 use Rattle.format4.specs.Share.{Fed}
 use Rattle.format4.specs.Size.{Columns, lengthOf}
 use Rattle.format4.proofs.CutLaws.{segments-fed}
-use Rattle.format4.proofs.Format4Laws.{length-pairs}
 use Rattle.format4.proofs.CountLaws.{Told}
 use Rattle.format4_writer.specs.Places.{Room, Apart, columnsAt, placesAt, headed}
 use Rattle.format4_writer.proofs.PlacesLaws.{apart-at, whole-subtable}
@@ -28,7 +27,7 @@ module _ (cs gs : List ℕ) (n : RangeCounter) (k : Columns cs gs) (t : Told (pa
   told-room l h =
       let s : n .segments ≡ length (segments (pairs cs gs)) = ap (λ (m : RangeCounter). m .segments) (t .is) in
       let g : n .glyphs ≡ entries (segments (pairs cs gs)) = ap (λ (m : RangeCounter). m .glyphs) (t .is) ∙ length-array (pairs cs gs) in
-      let e = length-pairs cs gs (k .even) in
+      let e = length-even cs gs (k .even) in
       let z : length (pairs cs gs) ≡ length gs - 0 = omega arith in
       let short = t .short in
       let even = k .even in

@@ -9,7 +9,7 @@ use lib.ListN.{length}
 use lib.Dec.{ltb}
 use Rattle.laws.specs.Choice.{ifLt}
 use Rattle.laws.proofs.ChoiceLaws.{by-pick, if-lt, else-lt}
-use Rattle.laws.proofs.FirstLaws.{first-is, first-none}
+use Rattle.laws.proofs.FirstLaws.{first-is, first-past}
 use Rattle.source.specs.declared.Header.{Header}
 use Rattle.source.specs.declared.Header.the-variants.{Records, Refused as Rejected}
 use Rattle.source.specs.Header.{refused5, recordCount, headerOf, offsetOf}
@@ -59,13 +59,13 @@ module _ (xs : List ℕ) (n : ℕ) (a : Accepted xs n) (c : ℕ) where
   pub new-as-old : ((j : ℕ) → j < n → leadsTo xs 12 j ≡ false) → newHead xs c ≡ oldHead xs c
   unfolding newOf
   new-as-old miss =
-      let f = first-none (leadsTo xs 12) n miss in
+      let f = first-past (leadsTo xs 12) n miss in
       by-accepted xs (newOf xs c) a ∙ rw f (sym (else-lt n n _ _ (omega arith) refl)) ∙ sym (by-accepted xs (oldOf xs c) a)
 
   pub old-none : ((j : ℕ) → j < n → leadsTo xs 4 j ≡ false) → oldHead xs c ≡ Refused 11
   unfolding oldOf
   old-none miss =
-      let f = first-none (leadsTo xs 4) n miss in
+      let f = first-past (leadsTo xs 4) n miss in
       by-accepted xs (oldOf xs c) a ∙ rw f (sym (else-lt n n _ _ (omega arith) refl))
 
 -- ---- a head's number is 0, 5 or 11

@@ -3,7 +3,7 @@ use Prim.Native.Nat.{ℕ, _<_, _≤_}
 use mathlib.Core.Path.{_≡_, refl, sym, subst, _∙_}
 use mathlib.Core.Logic.{_⊎_, inl, inr}
 use mathlib.Core.Bool.{Bool, true, false}
-use lib.Dec.{T, leb, ltb, eqb}
+use lib.Dec.{T, leb, ltb}
 use borrow.Author.Tests.{ltb-true, ltb-false, leb-true, leb-false, lt-ltb, le-ltb, le-leb, lt-leb, eq-eqb, ne-eqb}
 use Rattle.laws.specs.Choice.{pick, both, either, ifLt, ifLe, ifEq}
 
@@ -60,6 +60,11 @@ pick-same false x = refl
 pub by-pick : {A : Type 0} (P : A → Type 0) (t : Bool) (a b : A) → (t ≡ true → P a) → (t ≡ false → P b) → P (pick t a b)
 by-pick P true a b f g = f refl
 by-pick P false a b f g = g refl
+
+-- by the two ways of a test
+pub by-test : (P : Type 0) (t : Bool) → (t ≡ true → P) → (t ≡ false → P) → P
+by-test P true f g = f refl
+by-test P false f g = g refl
 
 pub by-leb : (P : Type 0) (a b : ℕ) → (a ≤ b → P) → (b < a → P) → P
 by-leb P a b f g = go (leb a b) refl

@@ -23,3 +23,12 @@ neither-right false b e = e
 pub both-none : (a b c : Bool) → both a b ≡ false → both a (both b c) ≡ false
 both-none true b c e = rw e
 both-none false b c e = refl
+
+pub both-neither : (a b c : Bool) → both a b ≡ false → both a c ≡ false → both a (either b c) ≡ false
+both-neither true true c e f = e
+both-neither true false c e f = f
+both-neither false b c e f = refl
+
+pub either-none : (a : Bool) → either a false ≡ a
+either-none true = refl
+either-none false = refl

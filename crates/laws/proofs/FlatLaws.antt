@@ -5,7 +5,7 @@ use mathlib.Core.List.{List, [], _∷_, _++_, map}
 use mathlib.Core.Bool.{Bool, true}
 use native.Mathlib.Omega.{arith}
 use Rattle.laws.specs.Select.{each, select, flat}
-use Rattle.laws.proofs.LastsLaws.{by-test}
+use Rattle.laws.proofs.ChoiceLaws.{by-test}
 
 pub flat-map : {A B C : Type 0} (w : B → List C) (f : A → B) (xs : List A) → flat w (map f xs) ≡ flat (λ x. w (f x)) xs
 unfolding flat

@@ -2,20 +2,15 @@
 use Prim.Native.Nat.{ℕ, _+_, _≤_}
 use mathlib.Core.Path.{_≡_, refl, sym, ap, _∙_}
 use mathlib.Core.List.{List, [], _∷_}
-use mathlib.Core.Bool.{Bool, true, false}
+use mathlib.Core.Bool.{true, false}
 use native.Mathlib.Omega.{arith}
 use lib.ListN.{length, take, drop, length-append}
 use lib.Seq.{take-append-seam, drop-append-add}
 use Rattle.laws.specs.Pieces.{concat}
 use Rattle.laws.specs.Select.{anyOf, eqList}
 use Rattle.laws.specs.Lasts.{among, lasts, before, behind}
-use Rattle.laws.proofs.ChoiceLaws.{false-true}
+use Rattle.laws.proofs.ChoiceLaws.{by-test, false-true}
 use Rattle.laws.proofs.EqListLaws.{eq-true}
-
--- by the two ways of a test
-pub by-test : (P : Type 0) (t : Bool) → (t ≡ true → P) → (t ≡ false → P) → P
-by-test P true f g = f refl
-by-test P false f g = g refl
 
 -- ---- equal lists
 
@@ -102,6 +97,14 @@ behind-absent t (u ∷ us) e =
 pub length-concat : (u : List ℕ) (us : List (List ℕ)) → length (concat (u ∷ us)) ≡ length u + length (concat us)
 unfolding concat
 length-concat u us = length-append u (concat us)
+
+pub length-lasts : (us : List (List ℕ)) → length (concat (lasts us)) ≤ length (concat us)
+unfolding lasts
+length-lasts [] = omega arith
+length-lasts (u ∷ us) =
+    by-test (length (concat (lasts (u ∷ us))) ≤ length (concat (u ∷ us))) (among u us)
+    (λ e. rw (lasts-again u us e) (omega (arith, length-concat u us, length-lasts us)))
+    (λ e. rw (lasts-new u us e) (omega (arith, length-concat u us, length-concat u (lasts us), length-lasts us)))
 
 -- the two together are the whole
 pub before-behind : (t : List ℕ) (us : List (List ℕ)) → among t us ≡ true → before t us + behind t us ≡ length (concat us)

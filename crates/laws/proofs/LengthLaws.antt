@@ -7,7 +7,7 @@ use native.Mathlib.Omega.{arith}
 use lib.ListN.{length, length-map as map-length}
 use Rattle.laws.specs.Lists.{pairs}
 use Rattle.laws.specs.Select.{each, select}
-use Rattle.laws.proofs.LastsLaws.{by-test}
+use Rattle.laws.proofs.ChoiceLaws.{by-test}
 
 pub length-map : {A B : Type 0} (f : A → B) (xs : List A) → length (map f xs) ≡ length xs
 length-map f xs = map-length xs f

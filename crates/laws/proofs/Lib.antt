@@ -14,7 +14,6 @@ pub mod RunsLaws
 pub mod PartedLaws
 pub mod TestLaws
 pub mod PairsLaws
-pub mod LookingLaws
 pub mod FirstLaws
 pub mod LengthLaws
 pub mod FrontLaws
@@ -26,7 +25,5 @@ pub mod EqListLaws
 pub mod ReadLaws
 pub mod LastsLaws
 pub mod SetsCommLaws
-pub mod SeekingLaws
 pub mod FlatLaws
 pub mod TakeLaws
-pub mod FirstBeforeLaws

@@ -1,4 +1,4 @@
--- Whether some place passes, asked one place further; what it says of each place that none does; and a choice whose two ways agree.
+-- Whether some place passes, asked one place further; that none does, and what it says of each place; and a choice whose two ways agree.
 use Prim.Native.Nat.{ℕ, zero, suc, _+_, _<_, _≤_}
 use mathlib.Core.Path.{_≡_, refl, sym, ap, _∙_}
 use mathlib.Core.Logic.{⊎-elim}
@@ -40,6 +40,11 @@ some-false p (suc n) i e k a b =
     (λ (s : i ≡ k). ap p (sym s) ∙ neither-left (p i) (some p n (i + 1)) e)
     (λ (s : i < k). some-false p n (i + 1) (neither-right (p i) (some p n (i + 1)) e) k (omega arith) (omega arith))
     (eq-or-lt-of-le a)
+
+pub some-none : (p : ℕ → Bool) (n : ℕ) → ((k : ℕ) → k < n → p k ≡ false) → some p n 0 ≡ false
+unfolding some
+some-none p zero h = refl
+some-none p (suc n) h = rw (some-snoc p n, h n (omega arith)) (some-none p n (λ k l. h k (omega arith)))
 
 pub each-eq : {A : Type 0} {z : A} (a b : ℕ) (x y : A) → z ≡ x → z ≡ y → z ≡ ifEq a b x y
 unfolding ifEq

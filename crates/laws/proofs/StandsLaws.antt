@@ -1,8 +1,8 @@
 -- A list that stands in another at a place: what is read of it there is what is read of it alone.
 use Prim.Native.Nat.{ℕ, _+_, _<_, _≤_}
-use mathlib.Core.Path.{_≡_, _∙_}
+use mathlib.Core.Path.{_≡_, ap, _∙_}
 use mathlib.Core.List.{List, _++_, append-assoc}
-use native.Mathlib.Nat.{add-assoc}
+use native.Mathlib.Nat.{zero-add, add-assoc}
 use native.Mathlib.Omega.{arith}
 use lib.ListN.{length, getD, length-append, List·getD-append}
 use lib.Seq.{sets, length-sets, getD-append-add}
@@ -35,3 +35,27 @@ stands-in at i p q = record {
   inside = omega (arith, p .inside, q .inside);
   same = λ k h. rw (add-assoc at i k) (p .same (i + k) (omega (arith, q .inside)) ∙ q .same k h);
 }
+
+-- at a place that is told in other words
+pub stands-at : {xs t u : List ℕ} {i : ℕ} (at j : ℕ) → Stands xs i t → Stands t j u → at ≡ i + j → Stands xs at u
+stands-at {xs} {t} {u} {i} at j p q e = rw e (stands-in i j p q)
+
+-- ---- a list that stands in another stands in a longer one too
+
+pub stands-whole : (t : List ℕ) → Stands t 0 t
+stands-whole t = record { inside = omega arith; same = λ k h. ap (λ (i : ℕ). getD t i 0) (zero-add k) }
+
+module _ {xs t : List ℕ} {i : ℕ} where
+  pub stands-behind : (front : List ℕ) (at : ℕ) → Stands xs i t → at ≡ length front + i → Stands (front ++ xs) at t
+  stands-behind front at st e = record {
+    inside = rw (length-append front xs) (omega (arith, st .inside));
+    same = λ k h.
+        let p : at + k ≡ length front + (i + k) = omega arith in
+        rw p (getD-append-add front xs (i + k) 0 ∙ st .same k h);
+  }
+
+  pub stands-before : (back : List ℕ) → Stands xs i t → Stands (xs ++ back) i t
+  stands-before back st = record {
+    inside = rw (length-append xs back) (omega (arith, st .inside));
+    same = λ k h. List·getD-append xs back 0 (i + k) (omega (arith, st .inside)) ∙ st .same k h;
+  }

@@ -1,15 +1,13 @@
 -- What the kind of a subtable says of the points it maps, and the listed pairs as two columns.
-use Prim.Native.Nat.{ℕ, suc, _+_, _*_, _<_, _≤_}
-use mathlib.Core.Path.{_≡_, refl, sym, ap, _∙_}
-use mathlib.Core.List.{List, [], _∷_, map}
-use mathlib.Core.Bool.{Bool, true, false}
+use Prim.Native.Nat.{ℕ}
+use mathlib.Core.Path.{_≡_, sym, ap, _∙_}
+use mathlib.Core.List.{List}
+use mathlib.Core.Bool.{Bool}
 use native.Mathlib.Omega.{arith}
 use lib.ListN.{length, replicate}
 use lib.Seq.{sets}
-use Rattle.laws.specs.Choice.{pick}
 use Rattle.laws.specs.Lists.{Pair, pairs, keep}
-use Rattle.laws.specs.Select.{select}
-use Rattle.laws.proofs.PairsLaws.{firsts-pairs, seconds-pairs}
+use Rattle.laws.proofs.PairsLaws.{firsts-pairs, seconds-pairs, keep-pairs, length-keep}
 use Rattle.laws.proofs.LengthLaws.{length-map}
 use Rattle.number.specs.BigEndian.{Bytes}
 use Rattle.source.specs.declared.Kind.{Kind}
@@ -66,26 +64,6 @@ pub ruleset by-record = (asked-record, flags-record)
 pub ruleset by-kind = (flags4, flags12, flags14, flags-none)
 
 -- ---- two columns
-
--- the pairs whose code points pass are those of the columns that are kept
-pub keep-pairs : (p : ℕ → Bool) (cs gs : List ℕ) → length cs ≡ length gs → pairs (keep p cs cs) (keep p cs gs) ≡ select (λ q. p (q .0)) (pairs cs gs)
-unfolding select
-keep-pairs p [] gs e = refl
-keep-pairs p (c ∷ cs) [] e = absurd (omega arith)
-keep-pairs p (c ∷ cs) (g ∷ gs) e = go (p c) (keep p cs cs) (keep p cs gs) (keep-pairs p cs gs (omega arith))
-  where
-    go : (t : Bool) (k l : List ℕ) {r : List Pair} → pairs k l ≡ r → pairs (pick t (c ∷ k) k) (pick t (g ∷ l) l) ≡ pick t ((c, g) ∷ r) r
-    go true k l h = ap (λ (q : List Pair). (c, g) ∷ q) h
-    go false k l h = h
-
-length-keep : (p : ℕ → Bool) (cs gs : List ℕ) → length cs ≡ length gs → length (keep p cs cs) ≡ length (keep p cs gs)
-length-keep p [] gs e = refl
-length-keep p (c ∷ cs) [] e = absurd (omega arith)
-length-keep p (c ∷ cs) (g ∷ gs) e = go (p c) (keep p cs cs) (keep p cs gs) (length-keep p cs gs (omega arith))
-  where
-    go : (t : Bool) (k l : List ℕ) → length k ≡ length l → length (pick t (c ∷ k) k) ≡ length (pick t (g ∷ l) l)
-    go true k l h = ap suc h
-    go false k l h = h
 
 -- the two columns of the pairs that are listed
 module _ (xs : List ℕ) (k n : ℕ) (r : EncodingRecord) (kind : Kind) (cs gs fs tocs togs : List ℕ)

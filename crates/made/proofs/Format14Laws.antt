@@ -1,16 +1,15 @@
 -- How long a new format 14 subtable can be, and that it is readable as itself: its number of selector records and its own length.
 use Prim.Native.Nat.{ℕ, zero, suc, _+_, _-_, _*_, _/_, _%_, _≤_, _<_}
 use mathlib.Core.Path.{_≡_, sym, ap, _∙_}
-use mathlib.Core.List.{List, [], _∷_, _++_, map}
+use mathlib.Core.List.{List, [], _++_, map}
 use native.Mathlib.Omega.{arith}
 use lib.Dec.{eqb}
 use lib.ListN.{length, length-append}
 use Rattle.laws.specs.Choice.{pick}
-use Rattle.laws.specs.Lasts.{among, lasts}
 use Rattle.laws.specs.Pieces.{concat}
 use Rattle.laws.specs.Select.{each, flat}
 use Rattle.laws.proofs.ChoiceLaws.{by-pick, by-leb}
-use Rattle.laws.proofs.LastsLaws.{by-test, lasts-again, lasts-new, length-concat}
+use Rattle.laws.proofs.LastsLaws.{length-concat, length-lasts}
 use Rattle.laws.proofs.LengthLaws.{length-each, length-map, length-select}
 use Rattle.laws.proofs.StandsLaws.{Stands, stands-append}
 use Rattle.number.specs.BigEndian.{be, enc}
@@ -34,14 +33,6 @@ use Rattle.format14.proofs.RowsLaws.{written-rows}
 use Rattle.format14.proofs.WholeLaws.{length-format14}
 
 -- ---- tables by number, none longer than tableMax
-
-length-lasts : (us : List (List ℕ)) → length (concat (lasts us)) ≤ length (concat us)
-unfolding lasts
-length-lasts [] = omega arith
-length-lasts (u ∷ us) =
-    by-test (length (concat (lasts (u ∷ us))) ≤ length (concat (u ∷ us))) (among u us)
-    (λ e. rw (lasts-again u us e) (omega (arith, length-concat u us, length-lasts us)))
-    (λ e. rw (lasts-new u us e) (omega (arith, length-concat u us, length-concat u (lasts us), length-lasts us)))
 
 length-from : (f : ℕ → List ℕ) → ((i : ℕ) → length (f i) ≤ tableMax) → (n i : ℕ) → length (concat (from f n i)) ≤ tableMax * n
 unfolding from concat

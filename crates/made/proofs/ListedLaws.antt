@@ -12,8 +12,7 @@ use Rattle.laws.specs.Lists.{Pair, pairs}
 use Rattle.laws.specs.Linked.{Each}
 use Rattle.laws.specs.Listed as laws
 use Rattle.laws.specs.Select.{select}
-use Rattle.laws.proofs.LastsLaws.{by-test}
-use Rattle.laws.proofs.ChoiceLaws.{pick-same}
+use Rattle.laws.proofs.ChoiceLaws.{pick-same, by-test}
 use Rattle.source.specs.Kind.{formatOf}
 use Rattle.records.specs.Records.{leadsTo}
 use Rattle.listing.specs.Job.{Job, glyphCount}

@@ -2,7 +2,7 @@
 use Prim.Native.Nat.{ℕ, zero, suc, _<_, _≤_}
 use mathlib.Core.Path.{_≡_, refl, sym, ap, _∙_}
 use mathlib.Core.List.{List}
-use mathlib.Core.Bool.{Bool, true, false, not}
+use mathlib.Core.Bool.{Bool, true, false}
 use native.Mathlib.Omega.{arith}
 use lib.Dec.{ltb}
 use lib.ListN.{length, getD, replicate, length-set, length-replicate}
@@ -10,9 +10,8 @@ use lib.Seq.{getD-set-same, getD-set-other}
 use borrow.Author.Tests.{ltb-true, ltb-false, eqb-true, eq-eqb}
 use Rattle.laws.specs.Choice.{pick, both}
 use Rattle.laws.specs.Search.{first}
-use Rattle.laws.proofs.ChoiceLaws.{by-pick, by-leb, both-left, both-right, false-true, not-true}
-use Rattle.laws.proofs.EitherLaws.{true-of-not}
-use Rattle.laws.proofs.SeekingLaws.{first-holds, first-none}
+use Rattle.laws.proofs.ChoiceLaws.{by-pick, by-leb, both-left, both-right, false-true}
+use Rattle.laws.proofs.FirstLaws.{first-holds, first-none}
 use Rattle.number.specs.Limits.{recordsMax}
 use Rattle.source.specs.declared.Kind.{Kind}
 use Rattle.source.specs.declared.Kind.the-variants.{Format4, Format12, Format14, Unreadable}
@@ -30,6 +29,7 @@ use Rattle.format14.specs.Format14.{outcome as outcome14}
 use Rattle.plan.specs.declared.Outcome.{Outcome}
 use Rattle.plan.specs.declared.Outcome.the-variants.{NotRetained, Skipped, Empty, TooLong, Covered, BadMapping, Served, Made}
 use Rattle.plan.specs.Plan.{server as earliest, retainedOutcome, listedOf, givenOf, by4, by14, freshAs, fresh, isMade, sizeOf, serves, outcomeOf, outcomes, plan}
+use Rattle.plan.proofs.OutcomeLaws.{made-size}
 use Rattle.made.proofs.MadeLaws.{not-made}
 
 -- ---- the row of outcomes
@@ -131,16 +131,6 @@ fresh-unserved j k = go (leadsTo (j .source) k)
     go (Format12 language g len) = refl
     go (Format14 r len) = size14 (outcome14 (givenOf j k len))
     go Unreadable = refl
-
-made-size : (o : Outcome) → isMade o ≡ true → o ≡ Made (sizeOf o)
-made-size NotRetained e = absurd (false-true e)
-made-size Skipped e = absurd (false-true e)
-made-size Empty e = absurd (false-true e)
-made-size TooLong e = absurd (false-true e)
-made-size Covered e = absurd (false-true e)
-made-size BadMapping e = absurd (false-true e)
-made-size (Served by) e = absurd (false-true e)
-made-size (Made size) e = refl
 
 -- ---- in the plan
 

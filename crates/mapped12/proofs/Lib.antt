@@ -1,2 +1,1 @@
 pub mod Mapped12Laws
-pub mod CasesLaws

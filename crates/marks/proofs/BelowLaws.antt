@@ -2,15 +2,15 @@
 use Prim.Native.Nat.{ℕ, zero, suc, _+_, _-_, _/_, _<_, _≤_}
 use mathlib.Core.Path.{_≡_, refl, sym}
 use mathlib.Core.List.{List, [], _∷_}
-use mathlib.Core.Bool.{Bool, true, false}
+use mathlib.Core.Bool.{false}
 use native.Mathlib.Nat.{not-suc-le-zero}
 use native.Mathlib.Omega.{arith}
 use lib.Dec.{ltb, eqb}
 use lib.ListN.{length, getD}
 use borrow.Author.Tests.{lt-ltb, le-ltb, ne-eqb}
-use Rattle.laws.specs.Choice.{either}
 use Rattle.laws.specs.Lists.{Rising}
 use Rattle.laws.proofs.ChoiceLaws.{by-pick, by-leb}
+use Rattle.laws.proofs.EitherLaws.{either-none}
 use Rattle.laws.proofs.RisingLaws.{rising-tail}
 use Rattle.laws.proofs.FrontLaws.{rising-above}
 use Rattle.marks.specs.Marks.{below, holds, Bound, Inside, Halving, AtLeast}
@@ -113,17 +113,13 @@ holds-above [] c h = refl
 holds-above (x ∷ xs) c h =
     rw (ne-eqb x c (λ e. omega (arith, h 0 (omega arith)))) (holds-above xs c (λ i l. h (suc i) (omega arith)))
 
-either-false : (b : Bool) → b ≡ either b false
-either-false true = refl
-either-false false = refl
-
 -- c stands at its place or nowhere
 holds-place : (ps : List ℕ) (c : ℕ) → Rising ps → below ps c < length ps → eqb (getD ps (below ps c) 0) c ≡ holds ps c
 unfolding below holds
 holds-place [] c r h = absurd (not-suc-le-zero h)
 holds-place (x ∷ xs) c r h =
     by-leb (below (x ∷ xs) c < suc (length xs) → eqb (getD (x ∷ xs) (below (x ∷ xs) c) 0) c ≡ holds (x ∷ xs) c) c x
-    (λ (l : c ≤ x) g. rw (le-ltb x c l, below-tail c r l, holds-above xs c (λ i k. omega (arith, rising-above r i k))) (either-false (eqb x c)))
+    (λ (l : c ≤ x) g. rw (le-ltb x c l, below-tail c r l, holds-above xs c (λ i k. omega (arith, rising-above r i k))) (sym (either-none (eqb x c))))
     (λ (l : x < c) g.
     rw (lt-ltb x c l, ne-eqb x c (λ e. omega arith)) (holds-place xs c (rising-tail r) (omega (arith, rw (lt-ltb x c l) at g))))
     h

@@ -1,12 +1,11 @@
 -- Whether a table serves a record, read off the code's answers, and the search for the first that does.
-use Prim.Native.Nat.{ℕ, _+_, _<_, _≤_}
-use mathlib.Core.Path.{_≡_, refl, sym, ap, _∙_}
+use Prim.Native.Nat.{ℕ, _<_}
+use mathlib.Core.Path.{_≡_}
 use mathlib.Core.List.{List}
 use mathlib.Core.Bool.{Bool, true, false}
 use native.Mathlib.Omega.{arith}
 use lib.ListN.{getD}
-use Rattle.laws.specs.Search.{first}
-use Rattle.laws.proofs.SearchLaws.{Looking, looking-start, looking-on, looking-found, looking-none}
+use Rattle.laws.proofs.SearchLaws.{Finding, looking-start, looks}
 use Rattle.source.specs.declared.Kind.{Kind}
 use Rattle.source.specs.Kind.{formatOf}
 use Rattle.records.specs.Records.{leadsTo, leadsToFormat, Placed}
@@ -26,26 +25,12 @@ module _ (xs : List ℕ) (os : List Outcome) (k r : ℕ) (made : Bool) (q : made
 pub ruleset serving = (serves-no, serves-then)
 
 -- the search over the earlier records of m
-pub record Serving (xs : List ℕ) (os : List Outcome) (k r : ℕ) : Type 0 where
-  pub looks : Looking (serves xs os k) k r
-
 module _ (xs : List ℕ) (os : List Outcome) (k : ℕ) where
-  pub serving-start : Serving xs os k 0
-  serving-start = record { looks = looking-start (serves xs os k) k }
+  pub server-start : Finding (serves xs os k) k 0 (server xs os k)
+  unfolding server
+  server-start = looking-start (serves xs os k) k
 
-  module _ (r : ℕ) where
-    pub serving-on : (t : Bool) → Serving xs os k r → r < k → t ≡ serves xs os k r → t ≡ false → Serving xs os k (r + 1)
-    serving-on t l h q e = record { looks = looking-on (l .looks) h (sym q ∙ e) }
+  pub two : (r : ℕ) → Placed xs k → k < 64 → r < k → Two xs k r
+  two r p b h = record { this = p; other = record { inside = omega (arith, p .inside) }; inside = omega arith }
 
-    pub serving-found : (t : Bool) → Serving xs os k r → r < k → t ≡ serves xs os k r → t ≡ true → r ≡ server xs os k
-    unfolding server
-    serving-found t l h q e = looking-found (l .looks) h (sym q ∙ e)
-
-    pub serving-none : Serving xs os k r → k ≤ r → r ≡ server xs os k
-    unfolding server
-    serving-none l h = looking-none (l .looks) h
-
-    pub two : Placed xs k → k < 64 → r < k → Two xs k r
-    two p b h = record { this = p; other = record { inside = omega (arith, p .inside) }; inside = omega arith }
-
-pub ruleset server-search = (serving-start, serving-on, serving-found, serving-none, two)
+pub ruleset server-search = (server-start, looks, two)

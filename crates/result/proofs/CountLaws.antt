@@ -1,12 +1,11 @@
 -- How many records are written, which of them is the i-th, and how long the tables of several records are together.
 use Prim.Native.Nat.{ℕ, zero, suc, _+_, _<_, _≤_}
-use mathlib.Core.Path.{_≡_, refl, ap, sym, _∙_}
+use mathlib.Core.Path.{_≡_, refl, ap, _∙_}
 use mathlib.Core.List.{List}
 use mathlib.Core.Bool.{true, false}
 use native.Mathlib.Nat.{zero-add, add-zero}
 use native.Mathlib.Omega.{arith}
-use Rattle.laws.proofs.ChoiceLaws.{by-pick}
-use Rattle.laws.proofs.LastsLaws.{by-test}
+use Rattle.laws.proofs.ChoiceLaws.{by-pick, by-test}
 use Rattle.plan.specs.declared.Outcome.{Outcome}
 use Rattle.plan.specs.Plan.{sizeOf}
 use Rattle.result.specs.Result.{isWritten, at, countFrom, sizesFrom}

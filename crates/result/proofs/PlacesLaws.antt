@@ -1,30 +1,28 @@
 -- Where the parts of a result stand: its header is accepted, its records are the written ones in source order, and each table is at its offset.
-use Prim.Native.Nat.{ℕ, zero, suc, _+_, _*_, _-_, _^_, _<_, _≤_}
-use mathlib.Core.Path.{_≡_, refl, sym, ap, _∙_}
-use mathlib.Core.List.{List, [], _∷_, _++_, append-assoc}
-use mathlib.Core.Logic.{⊎-elim}
-use mathlib.Core.Bool.{Bool, true, false}
-use native.Mathlib.Nat.{zero-add, add-zero, eq-or-lt-of-le}
+use Prim.Native.Nat.{ℕ, zero, suc, _+_, _*_, _-_, _<_, _≤_}
+use mathlib.Core.Path.{_≡_, refl, sym}
+use mathlib.Core.List.{List, [], _++_}
+use mathlib.Core.Bool.{true}
+use native.Mathlib.Nat.{zero-add, add-zero}
 use native.Mathlib.Omega.{arith}
-use lib.Seq.{getD-append-add}
-use lib.ListN.{length, getD, length-append, List·getD-append, List·getD-eq-default}
-use Rattle.laws.proofs.ChoiceLaws.{by-leb, false-true}
-use Rattle.laws.proofs.LastsLaws.{by-test}
-use Rattle.laws.proofs.StandsLaws.{Stands, stands-append, stands-in}
-use Rattle.number.specs.BigEndian.{be, enc, Bytes}
-use Rattle.number.proofs.BigEndianLaws.{be-lt, be-front, be-back, length-enc, be-enc-fits}
+use lib.ListN.{length, length-append}
+use Rattle.laws.proofs.ChoiceLaws.{by-leb, false-true, by-test}
+use Rattle.laws.proofs.StandsLaws.{Stands, stands-append, stands-whole, stands-behind, stands-before, stands-at}
+use Rattle.number.specs.BigEndian.{enc, Bytes}
+use Rattle.number.proofs.BigEndianLaws.{be-lt, length-enc}
 use Rattle.number.specs.Limits.{recordsMax}
-use Rattle.source.specs.Header.{version, recordCount, platformOf, encodingOf, offsetOf as offsetAt}
+use Rattle.source.specs.Header.{platformOf, encodingOf, offsetOf as offsetAt}
 use Rattle.source.proofs.HeaderLaws.{Accepted}
-use Rattle.number.proofs.StandsLaws.{be-stands}
+use Rattle.number.proofs.StandsLaws.{be-stands-enc}
 use Rattle.source.specs.Kind.{formatOf}
 use Rattle.records.specs.Records.{leadsTo}
 use Rattle.listing.specs.Job.{Job}
 use Rattle.plan.specs.declared.Outcome.{Outcome}
 use Rattle.plan.specs.declared.Outcome.the-variants.{NotRetained, Skipped, Empty, TooLong, Covered, BadMapping, Served, Made}
 use Rattle.plan.specs.Plan.{tableOf, isMade, sizeOf}
-use Rattle.result.specs.Result.{isWritten, makerOf, at, countFrom, sizesFrom, written, tablesStart, offsetOf, recordBytes, recordsFrom, tablesBelow, resultOf, resultLength}
-use Rattle.result.proofs.CountLaws.{Ith, count-few, count-one, count-find, sizes-split, sizes-snoc}
+use Rattle.plan.proofs.OutcomeLaws.{made-size, unmade-size}
+use Rattle.result.specs.Result.{isWritten, makerOf, at, countFrom, sizesFrom, written, offsetOf, recordBytes, recordsFrom, tablesBelow, resultOf, resultLength}
+use Rattle.result.proofs.CountLaws.{Ith, count-few, sizes-split, sizes-snoc}
 
 -- record m, not after record k, made the table that record k is written with
 pub record Maker (xs : List ℕ) (os : List Outcome) (k m : ℕ) : Type 0 where
@@ -40,50 +38,7 @@ pub record Sound (j : Job) (os : List Outcome) : Type 0 where
   pub small : resultLength os < 4294967296
   pub bytes : Bytes (j .source)
 
--- ---- a list in a longer one
-
-behind : (front : List ℕ) {rest t : List ℕ} {i : ℕ} (place : ℕ) → Stands rest i t → place ≡ length front + i → Stands (front ++ rest) place t
-behind front {rest} {t} {i} place st e = record {
-  inside = rw (length-append front rest) (omega (arith, st .inside));
-  same = λ k h.
-      let p : place + k ≡ length front + (i + k) = omega arith in
-      rw p (getD-append-add front rest (i + k) 0 ∙ st .same k h);
-}
-
-ahead : (back : List ℕ) {xs t : List ℕ} {i : ℕ} → Stands xs i t → Stands (xs ++ back) i t
-ahead back {xs} {t} {i} st = record {
-  inside = rw (length-append xs back) (omega (arith, st .inside));
-  same = λ k h. List·getD-append xs back 0 (i + k) (omega (arith, st .inside)) ∙ st .same k h;
-}
-
-whole : (t : List ℕ) → Stands t 0 t
-whole t = record { inside = omega arith; same = λ k h. ap (λ (i : ℕ). getD t i 0) (zero-add k) }
-
--- a number's bytes give it back
-number-stands : {xs : List ℕ} {place : ℕ} (w v : ℕ) → Stands xs place (enc w v) → v < 256 ^ w → be w xs place ≡ v
-number-stands {xs} {place} w v st h = be-stands st w 0 place (omega arith) (rw (length-enc w v) (omega arith)) ∙ be-enc-fits w v h
-
 -- ---- outcomes
-
-pub made-is : (o : Outcome) → isMade o ≡ true → o ≡ Made (sizeOf o)
-made-is NotRetained e = absurd (false-true e)
-made-is Skipped e = absurd (false-true e)
-made-is Empty e = absurd (false-true e)
-made-is TooLong e = absurd (false-true e)
-made-is Covered e = absurd (false-true e)
-made-is BadMapping e = absurd (false-true e)
-made-is (Served r) e = absurd (false-true e)
-made-is (Made n) e = refl
-
-pub not-made : (o : Outcome) → isMade o ≡ false → sizeOf o ≡ 0
-not-made NotRetained e = refl
-not-made Skipped e = refl
-not-made Empty e = refl
-not-made TooLong e = refl
-not-made Covered e = refl
-not-made BadMapping e = refl
-not-made (Served r) e = refl
-not-made (Made n) e = absurd (false-true (sym e))
 
 pub made-written : (o : Outcome) → isMade o ≡ true → isWritten o ≡ true
 made-written NotRetained e = e
@@ -103,13 +58,12 @@ pub record Entry (j : Job) (os : List Outcome) (i k : ℕ) : Type 0 where
 
 module _ (j : Job) (os : List Outcome) (s : Sound j os) where
   size-made : (k : ℕ) → isMade (at os k) ≡ true → sizeOf (at os k) ≡ length (tableOf j k)
-  size-made k e = s .made k (sizeOf (at os k)) (made-is (at os k) e)
+  size-made k e = s .made k (sizeOf (at os k)) (made-size (at os k) e)
 
   -- ---- lengths
 
   length-record : (k : ℕ) → length (recordBytes j os k) ≡ 8
-  length-record k =
-      rw (length-append, length-append, length-enc 2 (platformOf (j .source) k), length-enc 2 (encodingOf (j .source) k), length-enc 4 (offsetOf os (makerOf (at os k) k)))
+  length-record k = rw (length-append, length-append, length-enc, length-enc, length-enc)
 
   length-records : (n k : ℕ) → length (recordsFrom j os n k) ≡ 8 * countFrom os n k
   unfolding recordsFrom countFrom
@@ -128,7 +82,7 @@ module _ (j : Job) (os : List Outcome) (s : Sound j os) where
       let z = zero-add n in
       by-test (length (tablesBelow j os (suc n)) ≡ sizesFrom os (suc n) 0) (isMade (at os n))
       (λ e. rw (e, sizes-snoc os n 0, z, length-append (tableOf j n) (tablesBelow j os n), r, size-made n e) (omega arith))
-      (λ e. rw (e, sizes-snoc os n 0, z, r, not-made (at os n) e) (omega arith))
+      (λ e. rw (e, sizes-snoc os n 0, z, r, unmade-size (at os n) e) (omega arith))
 
   pub length-result : length (resultOf j os) ≡ resultLength os
   unfolding resultOf
@@ -161,8 +115,8 @@ module _ (j : Job) (os : List Outcome) (s : Sound j os) where
       by-test (Stands (tablesBelow j os (suc n)) (sizesFrom os (suc n - (k + 1)) (k + 1)) (tableOf j k)) (isMade (at os n))
       (λ e.
       let l = size-made n e in
-      rw (z, sizes-snoc os (n - (k + 1)) (k + 1), y, e) (behind (tableOf j n) (sizesFrom os (n - (k + 1)) (k + 1) + sizeOf (at os n)) r (omega arith)))
-      (λ e. rw (z, sizes-snoc os (n - (k + 1)) (k + 1), y, e, not-made (at os n) e, add-zero) r))
+      rw (z, sizes-snoc os (n - (k + 1)) (k + 1), y, e) (stands-behind (tableOf j n) (sizesFrom os (n - (k + 1)) (k + 1) + sizeOf (at os n)) r (omega arith)))
+      (λ e. rw (z, sizes-snoc os (n - (k + 1)) (k + 1), y, e, unmade-size (at os n) e, add-zero) r))
 
   -- ---- records
 
@@ -177,7 +131,7 @@ module _ (j : Job) (os : List Outcome) (s : Sound j os) where
       let r = records-stand n (k + 1) m (omega arith) (rw p at w) in
       let l = length-record k in
       by-test (Stands (recordsFrom j os (suc n) k) (8 * countFrom os (suc m) k) (recordBytes j os (k + suc m))) (isWritten (at os k))
-      (λ e. rw (p, e) (behind (recordBytes j os k) (8 * suc (countFrom os m (k + 1))) r (omega arith)))
+      (λ e. rw (p, e) (stands-behind (recordBytes j os k) (8 * suc (countFrom os m (k + 1))) r (omega arith)))
       (λ e. rw (p, e) r)
 
   -- ---- the whole
@@ -187,7 +141,7 @@ module _ (j : Job) (os : List Outcome) (s : Sound j os) where
   body-stands {t} {i} place st e =
       let a = length-enc 2 0 in
       let b = length-enc 2 (written os) in
-      behind (enc 2 0) place (behind (enc 2 (written os)) (2 + i) st (omega arith)) (omega arith)
+      stands-behind (enc 2 0) place (stands-behind (enc 2 (written os)) (2 + i) st (omega arith)) (omega arith)
 
   pub written-below : (k : ℕ) → isWritten (at os k) ≡ true → k < 64
   written-below k w =
@@ -199,13 +153,13 @@ module _ (j : Job) (os : List Outcome) (s : Sound j os) where
   table-stands k m =
       let l = length-records 64 0 in
       let st = tables-stand 64 k (written-below k (made-written (at os k) m)) m in
-      body-stands (offsetOf os k) (behind (recordsFrom j os 64 0) (8 * written os + sizesFrom os (64 - (k + 1)) (k + 1)) st (omega arith)) (omega arith)
+      body-stands (offsetOf os k) (stands-behind (recordsFrom j os 64 0) (8 * written os + sizesFrom os (64 - (k + 1)) (k + 1)) st (omega arith)) (omega arith)
 
   pub record-stands : (k : ℕ) → isWritten (at os k) ≡ true → Stands (resultOf j os) (4 + 8 * countFrom os k 0) (recordBytes j os k)
   record-stands k w =
       let z = zero-add k in
       let st = rw z at (records-stand 64 0 k (written-below k w) (rw z w)) in
-      body-stands (4 + 8 * countFrom os k 0) (ahead (tablesBelow j os 64) st) refl
+      body-stands (4 + 8 * countFrom os k 0) (stands-before (tablesBelow j os 64) st) refl
 
   -- ---- the header
 
@@ -216,9 +170,9 @@ module _ (j : Job) (os : List Outcome) (s : Sound j os) where
       let f = count-few os 64 0 in
       let l = length-result in
       record {
-        count = sym (number-stands 2 (written os) (behind (enc 2 0) 2 (stands-append [] (enc 2 (written os)) (recordsFrom j os 64 0 ++ tablesBelow j os 64)) (omega arith)) (omega arith));
+        count = sym (be-stands-enc 2 (written os) (stands-behind (enc 2 0) 2 (stands-append [] (enc 2 (written os)) (recordsFrom j os 64 0 ++ tablesBelow j os 64)) (omega arith)) (omega arith));
         header = omega arith;
-        zero = number-stands 2 0 (stands-append [] (enc 2 0) (enc 2 (written os) ++ (recordsFrom j os 64 0 ++ tablesBelow j os 64))) (omega arith);
+        zero = be-stands-enc 2 0 (stands-append [] (enc 2 0) (enc 2 (written os) ++ (recordsFrom j os 64 0 ++ tablesBelow j os 64))) (omega arith);
         few = f;
         fits = omega arith;
       }
@@ -257,10 +211,11 @@ module _ (j : Job) (os : List Outcome) (s : Sound j os) where
       let u = length-enc 2 p in
       let v = length-enc 2 q in
       record {
-        platform = number-stands 2 p (stands-at (4 + 8 * i) 0 st (stands-append [] (enc 2 p) (enc 2 q ++ enc 4 o)) (omega arith)) (be-lt 2 (j .source) (4 + 8 * k) (s .bytes));
-        encoding = number-stands 2 q (stands-at (6 + 8 * i) 2 st (behind (enc 2 p) 2 (stands-append [] (enc 2 q) (enc 4 o)) (omega arith)) (omega arith)) (be-lt 2 (j .source) (6 + 8 * k) (s .bytes));
-        offset = number-stands 4 o (stands-at (8 + 8 * i) 4 st (behind (enc 2 p) 4 (behind (enc 2 q) 2 (whole (enc 4 o)) (omega arith)) (omega arith)) (omega arith)) (offset-small (makerOf (at os k) k) (omega (arith, m .earlier)));
+        platform = be-stands-enc 2 p (stands-at (4 + 8 * i) 0 st (stands-append [] (enc 2 p) (enc 2 q ++ enc 4 o)) (omega arith)) (be-lt 2 (j .source) (4 + 8 * k) (s .bytes));
+        encoding = be-stands-enc 2 q (stands-at (6 + 8 * i) 2 st (stands-behind (enc 2 p) 2 (stands-append [] (enc 2 q) (enc 4 o)) (omega arith)) (omega arith)) (be-lt 2 (j .source) (6 + 8 * k) (s .bytes));
+        offset = be-stands-enc 4 o (stands-at (8 + 8 * i) 4 st (stands-behind (enc 2 p) 4 (stands-behind (enc 2 q) 2 (stands-whole (enc 4 o)) (omega arith)) (omega arith)) (omega arith)) (offset-small (makerOf (at os k) k) (omega (arith, m .earlier)));
       }
-    where
-      stands-at : {xs t u : List ℕ} {place : ℕ} (there i : ℕ) → Stands xs place t → Stands t i u → there ≡ place + i → Stands xs there u
-      stands-at {xs} {t} {u} {place} there i a b e = rw e (stands-in place i a b)
+
+  -- the i-th record of a result is the i-th written one
+  pub entry-ith : (i : ℕ) (p : Ith os 64 0 i) → Entry j os i (p .place)
+  entry-ith i p = rw (p .before) at (entry-written (p .place) (rw (zero-add (p .place)) at (p .written)))

@@ -1,8 +1,7 @@
 -- The plan of a job within the limits is sound: each format is made once at most, so that all tables together stay within 32 bits.
-use Prim.Native.Nat.{ℕ, zero, suc, _+_, _<_, _≤_}
+use Prim.Native.Nat.{ℕ, zero, suc, _+_, _≤_}
 use mathlib.Core.Path.{_≡_, refl, ap, sym, _∙_}
-use mathlib.Core.List.{List}
-use mathlib.Core.Bool.{Bool, true, false}
+use mathlib.Core.Bool.{true}
 use native.Mathlib.Nat.{zero-add}
 use native.Mathlib.Omega.{arith}
 use lib.Dec.{ltb}
@@ -10,11 +9,10 @@ use lib.ListN.{length}
 use borrow.Author.Tests.{ltb-true, lt-ltb, le-ltb, eqb-true, eq-eqb}
 use Rattle.laws.specs.Choice.{pick}
 use Rattle.laws.specs.Search.{first}
-use Rattle.laws.proofs.ChoiceLaws.{both-left, both-right, not-true}
+use Rattle.laws.proofs.ChoiceLaws.{both-left, both-right, not-true, by-test}
 use Rattle.laws.proofs.FirstLaws.{first-is}
-use Rattle.laws.proofs.LastsLaws.{by-test}
 use Rattle.number.specs.Limits.{recordsMax}
-use Rattle.source.specs.declared.Kind.the-variants.{Format4, Format12, Format14}
+use Rattle.source.specs.declared.Kind.the-variants.{Format4, Format12}
 use Rattle.source.specs.Header.{recordCount}
 use Rattle.source.specs.Kind.{formatOf}
 use Rattle.records.specs.Records.{leadsTo, leadsToFormat}
@@ -23,6 +21,7 @@ use Rattle.format12_lookup.proofs.BytesLaws.{groups-few}
 use Rattle.format12_lookup.proofs.Format12KindLaws.{length-is}
 use Rattle.plan.specs.declared.Outcome.the-variants.{Made}
 use Rattle.plan.specs.Plan.{listedOf, isMade, sizeOf, fresh, plan}
+use Rattle.plan.proofs.OutcomeLaws.{made-size, unmade-size}
 use Rattle.made.specs.Lent.{Lent}
 use Rattle.made.proofs.ListedLaws.{above-listed}
 use Rattle.made.proofs.MadeLaws.{made-length, by-format, made-written4, table-is}
@@ -30,11 +29,11 @@ use Rattle.made.proofs.TablesLaws.{made-short}
 use Rattle.made.proofs.PlanLaws.{Making, plan-past, plan-made, plan-served}
 use Rattle.result.specs.Result.{at, makes, sizesFrom}
 use Rattle.result.proofs.CountLaws.{count-few, sizes-snoc}
-use Rattle.result.proofs.PlacesLaws.{Sound, made-is, not-made}
+use Rattle.result.proofs.PlacesLaws.{Sound}
 
 module _ (j : Job) (l : Lent j) (few : recordCount (j .source) ≤ recordsMax) where
   pub making : (k : ℕ) → isMade (at (plan j) k) ≡ true → Making j k (sizeOf (at (plan j) k))
-  making k e = plan-made j few k (sizeOf (at (plan j) k)) (made-is (at (plan j) k) e)
+  making k e = plan-made j few k (sizeOf (at (plan j) k)) (made-size (at (plan j) k) e)
 
   -- ---- how long a table can be
 
@@ -75,7 +74,7 @@ module _ (j : Job) (l : Lent j) (few : recordCount (j .source) ≤ recordsMax) w
       (λ e.
       let a = both-left (isMade (at (plan j) r)) (leadsToFormat format (j .source) r) e in
       let b = both-right (isMade (at (plan j) r)) (leadsToFormat format (j .source) r) e in
-      t .alone r (sizeOf (at (plan j) r)) h (made-is (at (plan j) r) a) (eqb-true (formatOf (leadsTo (j .source) r)) format b ∙ sym f)))
+      t .alone r (sizeOf (at (plan j) r)) h (made-size (at (plan j) r) a) (eqb-true (formatOf (leadsTo (j .source) r)) format b ∙ sym f)))
 
   share-before : (k format most : ℕ) → first (makes j (plan j) format) 64 0 ≡ k → share format most k ≡ 0
   unfolding share
@@ -112,7 +111,7 @@ module _ (j : Job) (l : Lent j) (few : recordCount (j .source) ≤ recordsMax) w
       (λ q len e.
       let f = first-maker n 14 m (ap formatOf e) in
       omega (arith, r, x, a, b, c, share-before n 14 2147483648 f, share-after n 14 2147483648 f, made-short l n size (t .is))))
-      (λ m. omega (arith, r, x, a, b, c, not-made (at (plan j) n) m))
+      (λ m. omega (arith, r, x, a, b, c, unmade-size (at (plan j) n) m))
 
   share-most : (format most n : ℕ) → share format most n ≤ most
   unfolding share

@@ -10,10 +10,9 @@ use lib.Seq.{sets}
 use borrow.Author.Tests.{eq-eqb, ne-eqb, eqb-true, eqb-false, ltb-true, leb-true}
 use Rattle.laws.specs.Choice.{both}
 use Rattle.laws.specs.Select.{eqList}
-use Rattle.laws.proofs.ChoiceLaws.{both-left, both-right, by-leb}
+use Rattle.laws.proofs.ChoiceLaws.{both-left, both-right, by-leb, by-test}
 use Rattle.laws.proofs.EqListLaws.{eq-true}
 use Rattle.laws.proofs.EitherLaws.{both-none}
-use Rattle.laws.proofs.LastsLaws.{by-test}
 use Rattle.marks.specs.Marks.{holds}
 use Rattle.number.specs.BigEndian.{be, Num}
 use Rattle.uvs.specs.Tables.{counts, countsDefault, countsNonDefault}

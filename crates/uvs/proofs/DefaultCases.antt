@@ -1,21 +1,12 @@
--- C9 and its neighbours, computed from the definitions of the default table.
+-- Small default tables, computed from the definitions.
 use mathlib.Core.Path.{_≡_, refl}
 use mathlib.Core.List.{[], _∷_}
-use mathlib.Core.Bool.{true, false}
+use mathlib.Core.Bool.{false}
 use Rattle.laws.specs.Search.{first}
 use Rattle.laws.specs.Select.{each, select, anyOf, flat}
 use Rattle.number.specs.BigEndian.{be, enc}
 use Rattle.uvs.specs.Tables.{table}
 use Rattle.uvs.specs.Default.{inRanges, bitLength, coveredPoints, longRanges, longest, follow, newDefault}
-
--- C9: nine ranges and two kept points give ranges, eight give single points
-pub nine-ranges : inRanges 9 (0x41 ∷ 0x42 ∷ []) ≡ true
-unfolding inRanges bitLength first
-nine-ranges = refl
-
-pub eight-single : inRanges 8 (0x41 ∷ 0x42 ∷ []) ≡ false
-unfolding inRanges bitLength first
-eight-single = refl
 
 -- no range gives single points, of which there are none
 pub none-single : inRanges 0 [] ≡ false

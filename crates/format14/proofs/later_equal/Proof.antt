@@ -5,7 +5,7 @@ use Prim.Native.Nat.{_+_, _-_}
 use mathlib.Core.Path.{_≡_}
 use lib.ListN.{length}
 use Rattle.laws.specs.Select.{eqList}
-use Rattle.laws.proofs.SeekingLaws.{Seeking, seeking}
+use Rattle.laws.proofs.SearchLaws.{Seeking, seeking}
 use Rattle.format14.proofs.PlacingLaws.{sizes-of}
 use Rattle.selector_tables.specs.Selectors.{given}
 use Rattle.selector_tables.specs.ByNumber.{slot}

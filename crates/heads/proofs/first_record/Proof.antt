@@ -1,8 +1,7 @@
 -- The records before i do not lead to the format, so what is left gives what the whole gives.
 use Prim.Native.Nat.{_-_}
 use native.Mathlib.Omega.{arith}
-use Rattle.laws.proofs.SearchLaws.{Looking}
-use Rattle.laws.proofs.LookingLaws.{looking}
+use Rattle.laws.proofs.SearchLaws.{Looking, looking}
 use Rattle.heads.specs.Heads.{leadsTo}
 use Rattle.heads.proofs.first_record.Statement.{statement}
 use Rattle.heads.proofs.first_record.Tie as tie

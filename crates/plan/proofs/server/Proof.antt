@@ -1,12 +1,14 @@
 use native.Mathlib.Omega.{arith}
 use Prim.Native.Nat.{_-_}
 use borrow.Author.Needs.{needs}
-use Rattle.plan.proofs.ServesLaws.{Serving, server-search}
+use Rattle.laws.proofs.SearchLaws.{Finding}
+use Rattle.plan.specs.Plan.{serves, server}
+use Rattle.plan.proofs.ServesLaws.{server-search}
 use Rattle.plan.proofs.server.Statement.{statement}
 use Rattle.plan.proofs.server.Tie as tie
 
 abbrev Inv-loop : tie.InvT-loop
-Inv-loop s os k r₀ r = Serving s os k r
+Inv-loop s os k r₀ r = Finding (serves s os k) k r (server s os k)
 
 abbrev μ-loop : tie.MeasureT-loop
 μ-loop s os k r₀ r = k - r
