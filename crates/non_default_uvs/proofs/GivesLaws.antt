@@ -30,12 +30,12 @@ use Rattle.non_default_uvs.proofs.MappingLaws.{mapping-size, missing-ab
 -- ---- what holds of each mapping of a row holds of those selected
 
 module _ {A : Type 0} (P : A → Type 0) where
-  each-row : (f : ℕ → A) → ((i : ℕ) → P (f i)) → (n i : ℕ) → Each P (each f n i)
+  pub each-row : (f : ℕ → A) → ((i : ℕ) → P (f i)) → (n i : ℕ) → Each P (each f n i)
   unfolding each
   each-row f h zero i = tt
   each-row f h (suc n) i = (h i, each-row f h n (i + 1))
 
-  each-select : (q : A → Bool) (xs : List A) → Each P xs → Each P (select q xs)
+  pub each-select : (q : A → Bool) (xs : List A) → Each P xs → Each P (select q xs)
   unfolding select
   each-select q [] h = tt
   each-select q (x ∷ xs) h = by-test (each-select q xs (h .1)) (q x)
@@ -46,7 +46,7 @@ module _ {A : Type 0} (P : A → Type 0) where
 
 -- ---- mappings read back from their bytes
 
-none-read : (p : ℕ) → mappings [] p ≡ []
+pub none-read : (p : ℕ) → mappings [] p ≡ []
 unfolding each be
 none-read p = refl
 
@@ -139,7 +139,7 @@ module _ (kept requested glyphs : List ℕ) (c : ℕ) where
       (λ e. rw (e, d) ih)
       (λ e. rw (e, d) ih))
 
-all-stay : (kept requested : List ℕ) (c : ℕ) → holds kept c ≡ true → (gs : List ℕ) → stayingGlyphs kept requested c gs ≡ gs
+pub all-stay : (kept requested : List ℕ) (c : ℕ) → holds kept c ≡ true → (gs : List ℕ) → stayingGlyphs kept requested c gs ≡ gs
 unfolding select
 all-stay kept requested c e [] = refl
 all-stay kept requested c e (g ∷ gs) = rw e (ap (λ (l : List ℕ). g ∷ l) (rw e at (all-stay kept requested c e gs)))
