@@ -16,6 +16,8 @@ use Rattle.laws.proofs.SetsLaws.{sets-append, sets-snoc}
 use Rattle.number.specs.BigEndian.{put, enc}
 use Rattle.number.proofs.BigEndianLaws.{length-enc}
 use Rattle.marks.specs.Marks.{kept}
+use Rattle.uvs.specs.Checksum.{mixed}
+use Rattle.uvs.proofs.ChecksumLaws.{mixed-append}
 use Rattle.uvs.specs.Default.{follow, longest, rangeBytes}
 use Rattle.default_uvs.specs.Stream.{points, records, Beside, Point, Start, Next, Count}
 
@@ -198,6 +200,30 @@ module _ (most : ℕ) (ks fs : List ℕ) (i : ℕ) where
         record { is = omega (arith, m); below = omega (arith, l .few, l .standing .within, b .few) }
 
 pub ruleset counted = (counted-start, counted-here, counted-on, counted-end)
+
+-- mixed into a checksum: what is left of the records, from here on, gives the whole
+pub record Summed (most : ℕ) (ks fs : List ℕ) (i sum : ℕ) : Type 0 where
+  pub standing : Standing ks fs i
+  pub left : mixed sum (flat rangeBytes (records most ks fs i)) ≡ mixed 0 (flat rangeBytes (records most ks fs 0))
+
+module _ (most : ℕ) (ks fs : List ℕ) (i : ℕ) where
+  pub summed-start : Point ks fs 0 i → Summed most ks fs i 0
+  summed-start p = record { standing = standing-start most ks fs i p; left = rw (p .same) }
+
+  module _ (sum : ℕ) (l : Summed most ks fs i sum) where
+    pub summed-here : i < length ks → Beside ks fs → Start ks fs i
+    summed-here h b = start-here most ks fs i (l .standing) h b
+
+    pub summed-on : (a j next : ℕ) → Next most ks fs i a j → next ≡ mixed sum (rangeBytes (getD ks i 0, a)) → Summed most ks fs j next
+    unfolding flat
+    summed-on a j next n e =
+        record { standing = standing-on most ks fs i a j n; left = rw (e, ← mixed-append sum (rangeBytes (getD ks i 0, a)) (flat rangeBytes (records most ks fs j))) (rw (n .gives) at (l .left)) }
+
+    pub summed-end : length ks ≤ i → sum ≡ mixed 0 (flat rangeBytes (records most ks fs 0))
+    unfolding flat mixed
+    summed-end h = rw (records-end most ks fs i h) at (l .left)
+
+pub ruleset summed = (summed-start, summed-here, summed-on, summed-end)
 
 -- written: what is left of the records, from `place` into `out`, gives the whole from `to` into out₀
 pub record Written (most : ℕ) (ks fs out₀ : List ℕ) (to : ℕ) (out : List ℕ) (i place : ℕ) : Type 0 where

@@ -1,4 +1,4 @@
-// The new default table of a selector record: how long it is, and its bytes.
+// The new default table of a selector record: how long it is, a checksum, and its bytes.
 ghost use mathlib.Core.Path.{_≡_};
 ghost use Prim.Native.Nat.{_+_, _*_, _<_, _≤_};
 ghost use lib.ListN.{length};
@@ -7,8 +7,9 @@ ghost use lib.Dec.{eqb};
 ghost use Rattle.laws.specs.Select.{flat};
 ghost use Rattle.marks.specs.Marks.{marked, flagged, Flags};
 ghost use Rattle.number.specs.BigEndian.{be};
+ghost use Rattle.uvs.specs.Checksum.{mixed, checksum};
 ghost use Rattle.uvs.specs.Default.{range, covers, coveredBy, bitLength, rangeBytes, newDefault};
-ghost use Rattle.default_uvs.specs.Stream.{Lent, Beside, Point, Start, Next, Count, records, mostOf};
+ghost use Rattle.default_uvs.specs.Stream.{Lent, Covered, Beside, Point, Start, Next, Count, records, mostOf};
 
 // The least b with r below 2^b.
 fn bit_length(r: u32) -> u64
@@ -133,6 +134,28 @@ fn count_ranges(kept: &[u32], flags: &[u8], most: u32) -> usize
     n
 }
 
+// A checksum with one record more.
+fn mix_range(sum: u32, start: u32, additional: u32) -> u32
+    ensures { λ r. ⌜ r ≡ mixed sum (rangeBytes (start, additional)) ⌝ }
+{
+    uvs::mix_byte(uvs::mix_u24(sum, start), additional)
+}
+
+// A checksum of every record.
+fn sum_ranges(kept: &[u32], flags: &[u8], most: u32) -> u32
+    requires { ⌜ Beside (now kept) (now flags) ⌝ }
+    ensures { λ r. ⌜ r ≡ mixed 0 (flat rangeBytes (records most (now (kept .entry)) (now (flags .entry)) 0)) ⌝ }
+{
+    let mut i = next_point(kept, flags, 0);
+    let mut sum = 0;
+    while i < kept.len() {
+        let r = next_range(kept, flags, i, most);
+        sum = mix_range(sum, kept[i], r.additional);
+        i = r.next;
+    }
+    sum
+}
+
 // Writes one record.
 fn copy_range(out: &mut [u8], to: usize, start: u32, additional: u32)
     requires { ⌜ (to + 4 ≤ length (now out)) ⌝ }
@@ -180,6 +203,16 @@ pub fn default_size(s: &[u8], p: usize, kept: &[u32], flags: &mut [u8]) -> usize
         return 0;
     }
     4 + 4 * n
+}
+
+// The new table's checksum, from the flags of the points that the table at p covers.
+pub fn default_sum(s: &[u8], p: usize, kept: &[u32], flags: &[u8]) -> u32
+    requires { ⌜ Lent (now s) p (now kept) (now flags) ⌝ }
+    requires { ⌜ Covered (now s) p (now kept) (now flags) ⌝ }
+    ensures { λ r. ⌜ r ≡ checksum (newDefault (now (s .entry)) p (now (kept .entry))) ⌝ }
+{
+    let most = most_additional(number::u32_at(s, p), kept);
+    sum_ranges(kept, flags, most)
 }
 
 // Writes the new table; nothing where there is none.

@@ -5,3 +5,4 @@ pub mod LoopLaws
 pub mod WholeLaws
 pub mod Format14Cases
 pub mod OffsetsLaws
+pub mod VariantsLaws

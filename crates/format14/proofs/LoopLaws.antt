@@ -1,5 +1,5 @@
--- The loops over the tables: refusal 8 asked record by record, lengths taken one by one, tables written from the last to the first.
-use Prim.Native.Nat.{ℕ, _+_, _-_, _<_, _≤_}
+-- The loops over the tables: refusal 8 asked record by record, lengths and checksums taken one by one, tables written from the last to the first.
+use Prim.Native.Nat.{ℕ, _+_, _-_, _*_, _<_, _≤_}
 use mathlib.Core.Path.{_≡_, refl, sym, _∙_}
 use mathlib.Core.List.{List}
 use mathlib.Core.Bool.{Bool, true, false}
@@ -15,11 +15,13 @@ use Rattle.laws.proofs.LastsLaws.{behind-le, eqList-length}
 use Rattle.laws.proofs.SearchLaws.{Asking, asking-start, asking-on, asking-yes, asking-no}
 use Rattle.laws.proofs.SelectLaws.{any-select}
 use Rattle.laws.proofs.SetsCommLaws.{sets-before}
-use Rattle.number.specs.BigEndian.{Num}
+use Rattle.number.specs.BigEndian.{be, Num}
+use Rattle.uvs.specs.Checksum.{checksum}
+use Rattle.uvs.proofs.ChecksumLaws.{sums-apart}
 use Rattle.selector_tables.specs.Selectors.{Given, selectorRecords, keepsSelector, badRecord, badKept}
-use Rattle.selector_tables.specs.ByNumber.{slot, Size, tableMax}
+use Rattle.selector_tables.specs.ByNumber.{slot, Size, Both, tableMax}
 use Rattle.format14.specs.Format14.{refused8}
-use Rattle.format14.specs.Ends.{from, Written, Lengths, Ends, Stops, Sizes, endsAt}
+use Rattle.format14.specs.Ends.{from, Written, Lengths, Sums, Ends, All, Stops, endsAt}
 use Rattle.format14.proofs.SlotsLaws.{written-turn, written-still, behind-turn}
 
 -- ---- refusal 8
@@ -36,38 +38,54 @@ module _ (g : Given) (n k : ℕ) (q : Num 4 (g .source) (g .start + 6) n) where
 
 pub ruleset refusing = (asking-start, asking-on, refused-yes, refused-no)
 
--- ---- lengths
+-- ---- lengths and checksums
 
 -- the tables before t are measured
-pub record Measuring (f : ℕ → List ℕ) (m t : ℕ) (ls : List ℕ) : Type 0 where
+pub record Measuring (f : ℕ → List ℕ) (m t : ℕ) (ls ss : List ℕ) : Type 0 where
   pub within : t ≤ m
   pub room : m ≤ length ls
+  pub also : m ≤ length ss
   pub each : (j : ℕ) → j < t → getD ls j 0 ≡ length (f j)
   pub small : (j : ℕ) → j < t → getD ls j 0 ≤ tableMax
+  pub sums : (j : ℕ) → j < t → getD ss j 0 ≡ checksum (f j)
 
-pub measuring-start : (f : ℕ → List ℕ) (m : ℕ) (ls : List ℕ) → m ≤ length ls → Measuring f m 0 ls
-measuring-start f m ls h = record { within = omega arith; room = h; each = λ j l. absurd (omega arith); small = λ j l. absurd (omega arith) }
-
-pub measuring-on : (g : Given) (m t : ℕ) (ls : List ℕ) (r : ℕ) → Measuring (slot g) m t ls → t < m → Size g t r → Measuring (slot g) m (t + 1) (set ls t r)
-measuring-on g m t ls r p h z = record {
+pub measuring-start : (f : ℕ → List ℕ) (m : ℕ) (ls ss : List ℕ) → m ≤ length ls → m ≤ length ss → Measuring f m 0 ls ss
+measuring-start f m ls ss h k = record {
   within = omega arith;
-  room = rw length-set (p .room);
-  each = λ j l. by-leb (getD (set ls t r) j 0 ≡ length (slot g j)) t j
-      (λ a.
-      let same : j ≡ t = omega arith in
-      rw same (getD-set-same ls t r 0 (omega (arith, p .room)) ∙ z .is))
-      (λ a. getD-set-other ls t j r 0 (λ e. omega arith) ∙ p .each j a);
-  small = λ j l. by-leb (getD (set ls t r) j 0 ≤ tableMax) t j
-      (λ a.
-      let same : j ≡ t = omega arith in
-      rw (same, getD-set-same ls t r 0 (omega (arith, p .room))) (z .below))
-      (λ a. rw (getD-set-other ls t j r 0 (λ e. omega arith)) (p .small j a));
+  room = h;
+  also = k;
+  each = λ j l. absurd (omega arith);
+  small = λ j l. absurd (omega arith);
+  sums = λ j l. absurd (omega arith);
 }
 
-pub measuring-end : (f : ℕ → List ℕ) (m t : ℕ) (ls : List ℕ) → Measuring f m t ls → m ≤ t → Lengths f m ls
-measuring-end f m t ls p h = record { room = p .room; each = λ j l. p .each j (omega arith); small = λ j l. p .small j (omega arith) }
+-- the entry of a list that is set at its place, up to there
+set-each : (P : ℕ → ℕ → Type 0) (l : List ℕ) (t v : ℕ) → t < length l → ((j : ℕ) → j < t → P j (getD l j 0)) → P t v → (j : ℕ) → j < t + 1 → P j (getD (set l t v) j 0)
+set-each P l t v r h p j b =
+    by-leb (P j (getD (set l t v) j 0)) t j
+    (λ a.
+    let same : j ≡ t = omega arith in
+    rw (same, getD-set-same l t v 0 r) p)
+    (λ a. rw (getD-set-other l t j v 0 (λ e. omega arith)) (h j a))
 
-pub ruleset measuring = (measuring-start, measuring-on, measuring-end)
+pub measuring-on : (g : Given) (m t : ℕ) (ls ss : List ℕ) (r sum : ℕ) → Measuring (slot g) m t ls ss → t < m → Size g t r → sum ≡ checksum (slot g t) → Measuring (slot g) m (t + 1) (set ls t r) (set ss t sum)
+measuring-on g m t ls ss r sum p h z e = record {
+  within = omega arith;
+  room = rw length-set (p .room);
+  also = rw length-set (p .also);
+  each = set-each (λ j v. v ≡ length (slot g j)) ls t r (omega (arith, p .room)) (p .each) (z .is);
+  small = set-each (λ j v. v ≤ tableMax) ls t r (omega (arith, p .room)) (p .small) (z .below);
+  sums = set-each (λ j v. v ≡ checksum (slot g j)) ss t sum (omega (arith, p .also)) (p .sums) e;
+}
+
+module _ (f : ℕ → List ℕ) (m t : ℕ) (ls ss : List ℕ) (p : Measuring f m t ls ss) (h : m ≤ t) where
+  pub measured-lengths : Lengths f m ls
+  measured-lengths = record { room = p .room; each = λ j l. p .each j (omega arith); small = λ j l. p .small j (omega arith) }
+
+  pub measured-sums : Sums f m ss
+  measured-sums = record { room = p .also; each = λ j l. p .sums j (omega arith) }
+
+pub ruleset measuring = (measuring-start, measuring-on, measured-lengths, measured-sums)
 
 -- ---- tables
 
@@ -144,6 +162,23 @@ slot-room g m stop out₀ k out tail ends p e h z l = filling-room (slot g) m st
 
 -- ---- equal tables
 
--- tables of unequal length are not equal
-pub unequal : (g : Given) (t size j other : ℕ) → Sizes g t size j other → (size ≡ other → ⊥) → false ≡ eqList (slot g t) (slot g j)
-unequal g t size j other z n = sym (eqList-length (slot g t) (slot g j) (λ e. n (z .is ∙ e ∙ sym (z .also))))
+-- tables of unequal length or checksum are not equal
+pub unequal : (g : Given) (n t j : ℕ) (ls : List ℕ) → Lengths (slot g) n ls → t < n → j < n → (getD ls t 0 ≡ getD ls j 0 → ⊥) → false ≡ eqList (slot g t) (slot g j)
+unequal g n t j ls q a b h = sym (eqList-length (slot g t) (slot g j) (λ e. h (q .each t a ∙ e ∙ sym (q .each j b))))
+
+pub unequal-sums : (g : Given) (n t j : ℕ) (ss : List ℕ) → Sums (slot g) n ss → t < n → j < n → (getD ss t 0 ≡ getD ss j 0 → ⊥) → false ≡ eqList (slot g t) (slot g j)
+unequal-sums g n t j ss q a b h = sums-apart (slot g t) (slot g j) (λ e. h (q .each t a ∙ e ∙ sym (q .each j b)))
+
+pub both-there : (g : Given) (n t j : ℕ) (ls : List ℕ) → Lengths (slot g) n ls → t < n → j < n → 0 < getD ls t 0 → getD ls t 0 ≡ getD ls j 0 → Both g t j
+both-there g n t j ls q a b h e = record { one = omega (arith, q .each t a); other = omega (arith, q .each t a, q .each j b) }
+
+pub ruleset unequals = (unequal, unequal-sums)
+
+-- m tables are all there are
+pub all-lengths : (f : ℕ → List ℕ) (xs : List ℕ) (at : ℕ) (kept flags : List ℕ) (m : ℕ) (others ls : List ℕ) → All xs at kept flags m others → Lengths f m ls → Lengths f (2 * be 4 xs (at + 6)) ls
+all-lengths f xs at kept flags m others ls a q = rw (a .is) at q
+
+pub all-sums : (f : ℕ → List ℕ) (xs : List ℕ) (at : ℕ) (kept flags : List ℕ) (m : ℕ) (others ss : List ℕ) → All xs at kept flags m others → Sums f m ss → Sums f (2 * be 4 xs (at + 6)) ss
+all-sums f xs at kept flags m others ss a q = rw (a .is) at q
+
+pub ruleset alls = (all-lengths, all-sums)

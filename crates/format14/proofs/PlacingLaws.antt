@@ -13,9 +13,8 @@ use Rattle.laws.proofs.ChoiceLaws.{by-leb}
 use Rattle.laws.proofs.FirstLaws.{first-from, first-holds, first-none}
 use Rattle.laws.proofs.EqListLaws.{eq-true}
 use Rattle.laws.proofs.LastsLaws.{length-concat}
-use Rattle.selector_tables.specs.ByNumber.{slot, tableMax, Readable}
-use Rattle.selector_tables.specs.Selectors.{Given}
-use Rattle.format14.specs.Ends.{from, Written, laterEqual, Lengths, Ends, Total, Sizes, All}
+use Rattle.selector_tables.specs.ByNumber.{tableMax, Readable}
+use Rattle.format14.specs.Ends.{from, Written, laterEqual, Lengths, Ends, Total, All}
 use Rattle.format14.proofs.SlotsLaws.{from-apart, written-missing, written-again, written-new, behind-missing, behind-new, among-from}
 
 -- the tables from k on have their distances, and tail is the length of those written
@@ -115,8 +114,3 @@ pub tail-fits : (f : ℕ → List ℕ) (m k : ℕ) (ends : List ℕ) (tail : ℕ
     → Readable xs at len kept requested → All xs at kept flags m others → tail + getD ls (k - 1) 0 < 2 ^ 64
 tail-fits f m k ends tail ls xs at len kept requested flags others p q h r a =
     omega (arith, p .few, p .within, q .small (k - 1) (omega (arith, p .within)), r .few, a .is)
-
--- ---- two tables by their stored lengths
-
-pub sizes-of : (g : Given) (m t j : ℕ) (ls : List ℕ) → Lengths (slot g) m ls → t < m → 0 < getD ls t 0 → j < m → Sizes g t (getD ls t 0) j (getD ls j 0)
-sizes-of g m t j ls q a h b = record { is = q .each t a; also = q .each j b; some = h }

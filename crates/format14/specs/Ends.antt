@@ -9,6 +9,7 @@ use Rattle.laws.specs.Search.{first}
 use Rattle.laws.specs.Select.{eqList}
 use Rattle.laws.specs.Lasts.{lasts, behind}
 use Rattle.number.specs.BigEndian.{be}
+use Rattle.uvs.specs.Checksum.{checksum}
 use Rattle.selector_tables.specs.ByNumber.{slot, tableMax}
 use Rattle.selector_tables.specs.Selectors.{Given, selectorRecords}
 use Rattle.selector_records.specs.SelectorRecords.{usedRecords}
@@ -36,6 +37,11 @@ pub record Lengths (f : ℕ → List ℕ) (m : ℕ) (ls : List ℕ) : Type 0 whe
   pub each : (j : ℕ) → j < m → getD ls j 0 ≡ length (f j)
   pub small : (j : ℕ) → j < m → getD ls j 0 ≤ tableMax
 
+-- their checksums
+pub record Sums (f : ℕ → List ℕ) (m : ℕ) (ss : List ℕ) : Type 0 where
+  pub room : m ≤ length ss
+  pub each : (j : ℕ) → j < m → getD ss j 0 ≡ checksum (f j)
+
 -- the distances of m tables from the end of the subtable; 0 for a missing one
 pub record Ends (f : ℕ → List ℕ) (m : ℕ) (ends : List ℕ) : Type 0 where
   pub room : m ≤ length ends
@@ -46,12 +52,6 @@ pub record All (xs : List ℕ) (at : ℕ) (kept flags : List ℕ) (m : ℕ) (oth
   pub is : m ≡ 2 * be 4 xs (at + 6)
   pub beside : length kept ≤ length flags
   pub also : length kept ≤ length others
-
--- the lengths of two tables, the first of which is there
-pub record Sizes (g : Given) (t size j other : ℕ) : Type 0 where
-  pub is : size ≡ length (slot g t)
-  pub also : other ≡ length (slot g j)
-  pub some : 0 < size
 
 -- the length of all tables that are written, and its bound
 pub record Total (f : ℕ → List ℕ) (m r : ℕ) : Type 0 where

@@ -1,2 +1,3 @@
 pub mod Format14
 pub mod Ends
+pub mod Variants

@@ -9,7 +9,7 @@ ghost use Rattle.number.specs.BigEndian.{be};
 ghost use Rattle.selector_tables.specs.Selectors.{given};
 ghost use Rattle.selector_tables.specs.ByNumber.{slot, Readable, Numbered};
 ghost use Rattle.format14.specs.Format14.{refused8, rows, lengthOf, format14, outcome, lengthIn};
-ghost use Rattle.format14.specs.Ends.{laterEqual, Written, Lengths, Ends, All, Stops, Sizes, Total, Planned, endsAt};
+ghost use Rattle.format14.specs.Ends.{laterEqual, Written, Lengths, Sums, Ends, All, Stops, Total, Planned, endsAt};
 
 // What becomes of a format 14 subtable: refusal 8, nothing left to write, or the length of the new one.
 pub enum Outcome {
@@ -34,7 +34,7 @@ fn refuses(s: &[u8], at: usize, len: usize, kept: &[u32], map: &[u16], requested
     false
 }
 
-// The lengths of the m new tables. The flags are work room.
+// The lengths and checksums of the m new tables. The flags are work room.
 fn measure(
     s: &[u8],
     at: usize,
@@ -44,21 +44,25 @@ fn measure(
     requested: &[u16],
     flags: &mut [u8],
     lengths: &mut [usize],
+    sums: &mut [u32],
     m: usize,
 )
     requires { ⌜ Readable (now s) at len (now kept) (now requested) ⌝ }
     requires { ⌜ All (now s) at (now kept) (now flags) m (now flags) ⌝ }
-    requires { ⌜ m ≤ length (now lengths) ⌝ }
+    requires { ⌜ (m ≤ length (now lengths)) × (m ≤ length (now sums)) ⌝ }
     ensures { λ _. ⌜ Lengths (slot (given (now (s .entry)) at len (now (kept .entry)) (now (map .entry)) (now (requested .entry)))) m (now (lengths .exit)) ⌝ }
+    ensures { λ _. ⌜ Sums (slot (given (now (s .entry)) at len (now (kept .entry)) (now (map .entry)) (now (requested .entry)))) m (now (sums .exit)) ⌝ }
 {
     let mut t = 0;
     while t < m {
-        lengths[t] = selector_tables::table_size(s, at, len, kept, map, requested, flags, t);
+        let table = selector_tables::measure_table(s, at, len, kept, map, requested, flags, t);
+        lengths[t] = table.size;
+        sums[t] = table.sum;
         t += 1;
     }
 }
 
-// Whether tables t and j, the first of them there, are equal, given their lengths. The flags are work room.
+// Whether tables t and j, the first of them there, are equal. Lengths and checksums rule most out. The flags are work room.
 fn equal_tables(
     s: &[u8],
     at: usize,
@@ -68,18 +72,23 @@ fn equal_tables(
     requested: &[u16],
     flags: &mut [u8],
     others: &mut [u8],
+    lengths: &[usize],
+    sums: &[u32],
     t: usize,
-    size: usize,
     j: usize,
-    other: usize,
 ) -> bool
     requires { ⌜ Readable (now s) at len (now kept) (now requested) ⌝ }
     requires { ⌜ Numbered (now s) at (now kept) (now flags) t ⌝ }
     requires { ⌜ Numbered (now s) at (now kept) (now others) j ⌝ }
-    requires { ⌜ Sizes (given (now s) at len (now kept) (now map) (now requested)) t size j other ⌝ }
+    requires { ⌜ Lengths (slot (given (now s) at len (now kept) (now map) (now requested))) (2 * be 4 (now s) (at + 6)) (now lengths) ⌝ }
+    requires { ⌜ Sums (slot (given (now s) at len (now kept) (now map) (now requested))) (2 * be 4 (now s) (at + 6)) (now sums) ⌝ }
+    requires { ⌜ 0 < getD (now lengths) t 0 ⌝ }
     ensures { λ r. ⌜ r ≡ eqList (slot (given (now (s .entry)) at len (now (kept .entry)) (now (map .entry)) (now (requested .entry))) t) (slot (given (now (s .entry)) at len (now (kept .entry)) (now (map .entry)) (now (requested .entry))) j) ⌝ }
 {
-    if size != other {
+    if lengths[t] != lengths[j] {
+        return false;
+    }
+    if sums[t] != sums[j] {
         return false;
     }
     selector_tables::same_table(s, at, len, kept, map, requested, flags, others, t, j)
@@ -96,12 +105,14 @@ fn later_equal(
     flags: &mut [u8],
     others: &mut [u8],
     lengths: &[usize],
+    sums: &[u32],
     m: usize,
     t: usize,
 ) -> usize
     requires { ⌜ Readable (now s) at len (now kept) (now requested) ⌝ }
     requires { ⌜ All (now s) at (now kept) (now flags) m (now others) ⌝ }
     requires { ⌜ Lengths (slot (given (now s) at len (now kept) (now map) (now requested))) m (now lengths) ⌝ }
+    requires { ⌜ Sums (slot (given (now s) at len (now kept) (now map) (now requested))) m (now sums) ⌝ }
     requires { ⌜ (t < m) × (0 < getD (now lengths) t 0) ⌝ }
     ensures { λ r. ⌜ r ≡ laterEqual (slot (given (now (s .entry)) at len (now (kept .entry)) (now (map .entry)) (now (requested .entry)))) m t ⌝ }
 {
@@ -116,10 +127,10 @@ fn later_equal(
             requested,
             flags,
             others,
+            lengths,
+            sums,
             t,
-            lengths[t],
             j,
-            lengths[j],
         );
         if same {
             return j;
@@ -140,12 +151,14 @@ fn place_tables(
     flags: &mut [u8],
     others: &mut [u8],
     lengths: &[usize],
+    sums: &[u32],
     ends: &mut [usize],
     m: usize,
 ) -> usize
     requires { ⌜ Readable (now s) at len (now kept) (now requested) ⌝ }
     requires { ⌜ All (now s) at (now kept) (now flags) m (now others) ⌝ }
     requires { ⌜ Lengths (slot (given (now s) at len (now kept) (now map) (now requested))) m (now lengths) ⌝ }
+    requires { ⌜ Sums (slot (given (now s) at len (now kept) (now map) (now requested))) m (now sums) ⌝ }
     requires { ⌜ m ≤ length (now ends) ⌝ }
     ensures { λ _. ⌜ Ends (slot (given (now (s .entry)) at len (now (kept .entry)) (now (map .entry)) (now (requested .entry)))) m (now (ends .exit)) ⌝ }
     ensures { λ r. ⌜ Total (slot (given (now (s .entry)) at len (now (kept .entry)) (now (map .entry)) (now (requested .entry)))) m r ⌝ }
@@ -168,6 +181,7 @@ fn place_tables(
                 flags,
                 others,
                 lengths,
+                sums,
                 m,
                 k,
             );
@@ -245,7 +259,19 @@ fn lay_out(
     ensures { λ r. ⌜ Total (slot (given (now (s .entry)) at len (now (kept .entry)) (now (map .entry)) (now (requested .entry)))) m r ⌝ }
 {
     let mut lengths = [0usize; 1024];
-    measure(s, at, len, kept, map, requested, flags, &mut lengths, m);
+    let mut sums = [0u32; 1024];
+    measure(
+        s,
+        at,
+        len,
+        kept,
+        map,
+        requested,
+        flags,
+        &mut lengths,
+        &mut sums,
+        m,
+    );
     place_tables(
         s,
         at,
@@ -256,6 +282,7 @@ fn lay_out(
         flags,
         others,
         &lengths,
+        &sums,
         ends,
         m,
     )

@@ -1,1 +1,2 @@
 pub mod MappingLaws
+pub mod GivesLaws

@@ -19,7 +19,9 @@ use Rattle.laws.specs.Select.{flat}
 use Rattle.laws.specs.Search.{some}
 use Rattle.laws.proofs.SelectLaws.{any-select, Counting, counting-end, Copying, copying-start, copying-room, copying-yes, copying-no, copying-end}
 use Rattle.laws.proofs.SearchLaws.{Asking, asking-yes, asking-no}
-use Rattle.uvs.specs.NonDefault.{mapping, mappingAt, mappingBytes, keepsMapping, keptMappings, missing, badMapping}
+use Rattle.uvs.specs.Checksum.{mixed, checksum}
+use Rattle.uvs.proofs.ChecksumLaws.{mix-both, checksum-table, Summing, summing-end}
+use Rattle.uvs.specs.NonDefault.{mapping, mappingAt, mappingBytes, keepsMapping, keptMappings, newNonDefault, missing, badMapping}
 use Rattle.non_default_uvs.specs.Lent.{Count, New, badAt}
 
 -- ---- keepsMapping
@@ -83,6 +85,19 @@ count-all xs p kept requested m i k n l h = record {
   is = rw (n .is) at (counting-end (keepsMapping kept requested) (mappingAt xs p) m i k l h);
   below = omega (arith, l .few, l .within, n .below);
 }
+
+-- ---- mixed into a checksum
+
+pub mix-is : (xs : List ℕ) (place : ℕ) (map : List ℕ) (sum c g n q r : ℕ) → Num 3 xs place c → Num 2 xs (place + 3) g → New map g n
+    → q ≡ mixed sum (enc 3 c) → r ≡ mixed q (enc 2 n) → r ≡ mixed sum (mappingBytes map (mapping xs place))
+mix-is xs place map sum c g n q r hc hg hn e d = rw (← hc .is, ← hg .is, ← hn .is) (mix-both sum (enc 3 c) (enc 2 n) q r e d)
+
+pub sum-all : (xs : List ℕ) (p : ℕ) (kept map requested : List ℕ) (m i sum : ℕ) → Num 4 xs p m → Summing (mappingBytes map) (keepsMapping kept requested) (mappingAt xs p) m i sum → m ≤ i
+    → sum ≡ checksum (newNonDefault xs p kept map requested)
+unfolding newNonDefault
+sum-all xs p kept map requested m i sum n l h =
+    rw (n .is) at (summing-end (mappingBytes map) (keepsMapping kept requested) (mappingAt xs p) m i sum l h)
+    ∙ sym (checksum-table (mappingBytes map) (keptMappings xs p kept requested))
 
 -- ---- one mapping written
 

@@ -1,10 +1,11 @@
-// The new non-default table of a selector record: whether it names a missing glyph, how long it is, and its bytes.
+// The new non-default table of a selector record: whether it names a missing glyph, how long it is, a checksum, and its bytes.
 ghost use mathlib.Core.Path.{_≡_};
 ghost use Prim.Native.Nat.{_+_, _*_, _<_, _≤_};
 ghost use lib.ListN.{length};
 ghost use lib.Seq.{sets};
 ghost use Rattle.laws.specs.Select.{flat};
 ghost use Rattle.number.specs.BigEndian.{be};
+ghost use Rattle.uvs.specs.Checksum.{mixed, checksum};
 ghost use Rattle.uvs.specs.NonDefault.{mapping, keepsMapping, keptMappings, mappingBytes, newNonDefault, badMapping};
 ghost use Rattle.non_default_uvs.specs.Lent.{Mapping, Table, New, Count, badAt};
 
@@ -73,6 +74,36 @@ fn count_mappings(s: &[u8], p: usize, kept: &[u32], requested: &[u16]) -> usize
         }
     }
     n
+}
+
+// A checksum with one mapping more: its code point and new glyph.
+fn mix_mapping(sum: u32, s: &[u8], place: usize, map: &[u16]) -> u32
+    requires { ⌜ place + 5 ≤ length (now s) ⌝ }
+    ensures { λ r. ⌜ r ≡ mixed sum (mappingBytes (now (map .entry)) (mapping (now (s .entry)) place)) ⌝ }
+{
+    let c = number::u24_at(s, place);
+    let old = number::u16_at(s, place + 3);
+    let new = new_glyph(map, old) as u32;
+    uvs::mix_u16(uvs::mix_u24(sum, c), new)
+}
+
+// The new table's checksum: of every mapping that stays, in the source's order.
+pub fn non_default_sum(s: &[u8], p: usize, kept: &[u32], map: &[u16], requested: &[u16]) -> u32
+    requires { ⌜ Table (now s) p (now kept) (now requested) ⌝ }
+    ensures { λ r. ⌜ r ≡ checksum (newNonDefault (now (s .entry)) p (now (kept .entry)) (now (map .entry)) (now (requested .entry))) ⌝ }
+{
+    let m = number::u32_at(s, p) as usize;
+    let mut i = 0;
+    let mut sum = 0;
+    while i < m {
+        let from = p + 4 + 5 * i;
+        let stays = keeps_mapping(s, from, kept, requested);
+        i += 1;
+        if stays {
+            sum = mix_mapping(sum, s, from, map);
+        }
+    }
+    sum
 }
 
 // Writes a mapping's code point and new glyph.

@@ -6,20 +6,22 @@ use mathlib.Core.Bool.{Bool, true, false}
 use native.Mathlib.Omega.{arith}
 use lib.Dec.{eqb, ltb, leb}
 use lib.ListN.{length}
-use lib.Seq.{sets}
+use lib.Seq.{sets, length-sets}
 use borrow.Author.Tests.{eq-eqb, ne-eqb, eqb-true, eqb-false, ltb-true, leb-true}
 use Rattle.laws.specs.Choice.{both}
 use Rattle.laws.specs.Select.{eqList}
 use Rattle.laws.proofs.ChoiceLaws.{both-left, both-right, by-leb, by-test}
-use Rattle.laws.proofs.EqListLaws.{eq-true}
+use Rattle.laws.proofs.EqListLaws.{eq-refl, eq-true}
 use Rattle.laws.proofs.EitherLaws.{both-none}
-use Rattle.marks.specs.Marks.{holds}
+use Rattle.marks.specs.Marks.{holds, flagged}
 use Rattle.number.specs.BigEndian.{be, Num}
 use Rattle.uvs.specs.Tables.{counts, countsDefault, countsNonDefault}
-use Rattle.uvs.specs.Default.{newDefault}
+use Rattle.uvs.specs.Checksum.{mixed, checksum}
+use Rattle.uvs.specs.Default.{coveredBy, newDefault}
 use Rattle.uvs.specs.NonDefault.{newNonDefault, badMapping}
 use Rattle.uvs.proofs.TablesLaws.{counts-head, counts-inside}
-use Rattle.default_uvs.specs.Stream.{Lent}
+use Rattle.default_uvs.specs.Stream.{Lent, Covered}
+use Rattle.default_uvs.proofs.NewLaws.{covered-of}
 use Rattle.non_default_uvs.specs.Lent.{Table}
 use Rattle.selector_tables.proofs.ShapeLaws.{length-default, length-non-default, tables-apart}
 use Rattle.selector_tables.specs.Selectors.{Given, given, keepsSelector, defaultTable, nonDefaultTable, badRecord, badKept}
@@ -165,6 +167,16 @@ module _ (xs : List ℕ) (at len : ℕ) (kept requested : List ℕ) (t off : ℕ
         let c : counts 4 xs at len off ≡ true = rw e at (here .counted) in
         record { head = counts-head 4 xs at len off (r .inside) c; inside = counts-inside 4 xs at len off (r .inside) c; rises = r .kept-rises; few = r .kept-few; beside = n .beside }
 
+    -- the flags that a walk of the table leaves
+    module _ (flags after : List ℕ) (n : Numbered xs at kept flags t) (e : t % 2 ≡ 0) (d : after ≡ sets flags 0 (flagged (coveredBy xs (at + off)) kept)) where
+      pub lent-again : Lent xs (at + off) kept after
+      lent-again =
+          let l = lent-default flags n e in
+          record { head = l .head; inside = l .inside; rises = l .rises; few = l .few; beside = rw (d, length-sets) (l .beside) }
+
+      pub lent-covered : Covered xs (at + off) kept after
+      lent-covered = covered-of xs (at + off) kept flags after (lent-default flags n e) d
+
     pub lent-non-default : (t % 2 ≡ 0 → ⊥) → Table xs (at + off) kept requested
     lent-non-default h =
         let e = odd-one h in
@@ -194,6 +206,16 @@ module _ (xs : List ℕ) (at len : ℕ) (kept requested : List ℕ) (t off : ℕ
     size-non-default n z h d =
         record { is = rw (non-default-is z h) d; below = omega (arith, d, length-non-default xs (at + off) kept map requested, lent-non-default z h .inside, r .small) }
 
+    pub sum-none : off ≡ 0 → 0 ≡ checksum (slot g t)
+    unfolding checksum mixed
+    sum-none z = rw (none z)
+
+    pub sum-default : (n : ℕ) → (off ≡ 0 → ⊥) → t % 2 ≡ 0 → n ≡ checksum (newDefault xs (at + off) kept) → n ≡ checksum (slot g t)
+    sum-default n z e d = rw (default-is z e) d
+
+    pub sum-non-default : (n : ℕ) → (off ≡ 0 → ⊥) → (t % 2 ≡ 0 → ⊥) → n ≡ checksum (newNonDefault xs (at + off) kept map requested) → n ≡ checksum (slot g t)
+    sum-non-default n z h d = rw (non-default-is z h) d
+
     module _ (out : List ℕ) (to : ℕ) where
       pub copy-none : off ≡ 0 → out ≡ sets out to (slot g t)
       copy-none z = rw (none z)
@@ -210,9 +232,11 @@ module _ (xs : List ℕ) (at len : ℕ) (kept requested : List ℕ) (t off : ℕ
       pub copy-non-default : (off ≡ 0 → ⊥) → (t % 2 ≡ 0 → ⊥) → (fin : List ℕ) → fin ≡ sets out to (newNonDefault xs (at + off) kept map requested) → fin ≡ sets out to (slot g t)
       copy-non-default z e fin d = rw (non-default-is z e) d
 
-pub ruleset lents = (lent-default, lent-non-default)
+pub ruleset lents = (lent-default, lent-again, lent-covered, lent-non-default)
 
 pub ruleset sizes = (size-none, size-default, size-non-default)
+
+pub ruleset sums = (sum-none, sum-default, sum-non-default)
 
 pub ruleset copies = (copy-none, copy-default, copy-non-default)
 
@@ -271,8 +295,8 @@ module _ (xs : List ℕ) (at len : ℕ) (kept map requested : List ℕ) (r : Rea
       let short = rw none at l in
       omega (arith, short))
 
-  mixed : (i j : ℕ) → 0 < length (slot h i) → 0 < length (slot h j) → i % 2 ≡ 0 → j % 2 ≡ 1 → slot h i ≡ slot h j → ⊥
-  mixed i j a b e d same =
+  unlike : (i j : ℕ) → 0 < length (slot h i) → 0 < length (slot h j) → i % 2 ≡ 0 → j % 2 ≡ 1 → slot h i ≡ slot h j → ⊥
+  unlike i j a b e d same =
       let p = sourceTable xs at len kept i in
       let q = sourceTable xs at len kept j in
       let f = there-found j b in
@@ -288,8 +312,8 @@ module _ (xs : List ℕ) (at len : ℕ) (kept map requested : List ℕ) (r : Rea
       (λ q.
       let same = eq-true (slot h i) (slot h j) q in
       absurd (by-leb ⊥ (i % 2) 0
-      (λ l. mixed i j (b .one) (b .other) (omega arith) (omega arith) same)
-      (λ l. mixed j i (b .other) (b .one) (omega arith) (omega arith) (sym same))))
+      (λ l. unlike i j (b .one) (b .other) (omega arith) (omega arith) same)
+      (λ l. unlike j i (b .other) (b .one) (omega arith) (omega arith) (sym same))))
       (λ q. sym q)
 
 module _ (xs : List ℕ) (at len : ℕ) (kept map requested : List ℕ) (i j p q : ℕ) (r : Readable xs at len kept requested)
@@ -312,6 +336,17 @@ module _ (xs : List ℕ) (at len : ℕ) (kept map requested : List ℕ) (i j p q
   pub other-non-default : i % 2 ≡ j % 2 → (i % 2 ≡ 0 → ⊥) → Table xs (at + q) kept requested
   other-non-default e z = lent-non-default xs at len kept requested j q r u other-there (λ n. z (e ∙ n))
 
+  -- tables of one sort from one place
+  pub same-place : i % 2 ≡ j % 2 → p ≡ q → true ≡ eqList (slot (given xs at len kept map requested) i) (slot (given xs at len kept map requested) j)
+  same-place e d =
+      by-leb (true ≡ eqList (slot (given xs at len kept map requested) i) (slot (given xs at len kept map requested) j)) (i % 2) 0
+      (λ l.
+      let z : i % 2 ≡ 0 = omega arith in
+      rw (default-is xs at len kept requested i p r s map one-there z, default-is xs at len kept requested j q r u map other-there (sym e ∙ z), d) (sym (eq-refl (newDefault xs (at + q) kept))))
+      (λ l.
+      let z : i % 2 ≡ 0 → ⊥ = λ n. omega arith in
+      rw (non-default-is xs at len kept requested i p r s map one-there z, non-default-is xs at len kept requested j q r u map other-there (λ n. z (e ∙ n)), d) (sym (eq-refl (newNonDefault xs (at + q) kept map requested))))
+
   module _ (c : Bool) where
     pub same-default-is : i % 2 ≡ j % 2 → i % 2 ≡ 0 → c ≡ eqList (newDefault xs (at + p) kept) (newDefault xs (at + q) kept)
         → c ≡ eqList (slot (given xs at len kept map requested) i) (slot (given xs at len kept map requested) j)
@@ -323,4 +358,4 @@ module _ (xs : List ℕ) (at len : ℕ) (kept map requested : List ℕ) (i j p q
     same-non-default-is e z h =
         rw (non-default-is xs at len kept requested i p r s map one-there z, non-default-is xs at len kept requested j q r u map other-there (λ n. z (e ∙ n))) h
 
-pub ruleset sames = (same-unlike, same-default-is, same-non-default-is)
+pub ruleset sames = (same-unlike, same-place, same-default-is, same-non-default-is)

@@ -64,6 +64,12 @@ module _ (xs : List ℕ) (p : ℕ) (kept : List ℕ) where
     unfolding newNonDefault
     length-non-default = omega (arith, length-table (mappingBytes map) 5 (mapping-size map) (keptMappings xs p kept requested), length-mappings)
 
+    -- the count tells how long a table is
+    pub non-default-shape : be 4 xs p < 256 ^ 4 → 0 < length (newNonDefault xs p kept map requested)
+        → length (newNonDefault xs p kept map requested) ≡ 4 + 5 * be 4 (newNonDefault xs p kept map requested) 0
+    unfolding newNonDefault
+    non-default-shape b z = table-shape (mappingBytes map) 5 (mapping-size map) (keptMappings xs p kept requested) (omega (arith, length-mappings)) z .0
+
 -- counts equal, 4 + 4n bytes would be 4 + 5n
 pub tables-apart : (xs : List ℕ) (p q : ℕ) (kept map requested : List ℕ) → length kept < 256 ^ 4 → be 4 xs q < 256 ^ 4 → 0 < length (newDefault xs p kept)
     → newDefault xs p kept ≡ newNonDefault xs q kept map requested → ⊥

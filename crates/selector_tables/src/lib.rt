@@ -5,6 +5,7 @@ ghost use lib.ListN.{length};
 ghost use lib.Seq.{sets};
 ghost use Rattle.laws.specs.Select.{eqList};
 ghost use Rattle.number.specs.BigEndian.{be};
+ghost use Rattle.uvs.specs.Checksum.{checksum};
 ghost use Rattle.uvs.specs.Tables.{counts};
 ghost use Rattle.selector_tables.specs.Selectors.{given, badKept};
 ghost use Rattle.selector_tables.specs.ByNumber.{slot, Source, Readable, Numbered, Size, Both};
@@ -36,8 +37,14 @@ fn source_table(s: &[u8], at: usize, len: usize, kept: &[u32], requested: &[u16]
     0
 }
 
-// How long new table t is: 0 where there is none. The flags are work room.
-pub fn table_size(
+// How long a new table is, 0 where there is none, and a checksum of its bytes.
+pub struct TableMeasure {
+    pub size: usize,
+    pub sum: u32,
+}
+
+// Length and checksum of new table t. The flags are work room.
+pub fn measure_table(
     s: &[u8],
     at: usize,
     len: usize,
@@ -46,22 +53,35 @@ pub fn table_size(
     requested: &[u16],
     flags: &mut [u8],
     t: usize,
-) -> usize
+) -> TableMeasure
     requires { ⌜ Readable (now s) at len (now kept) (now requested) ⌝ }
     requires { ⌜ Numbered (now s) at (now kept) (now flags) t ⌝ }
-    ensures { λ r. ⌜ Size (given (now (s .entry)) at len (now (kept .entry)) (now (map .entry)) (now (requested .entry))) t r ⌝ }
+    ensures { λ r. ⌜ Size (given (now (s .entry)) at len (now (kept .entry)) (now (map .entry)) (now (requested .entry))) t (r .size) ⌝ }
+    ensures { λ r. ⌜ r .sum ≡ checksum (slot (given (now (s .entry)) at len (now (kept .entry)) (now (map .entry)) (now (requested .entry))) t) ⌝ }
 {
     let off = source_table(s, at, len, kept, requested, t);
     if off == 0 {
-        return 0;
+        return TableMeasure { size: 0, sum: 0 };
     }
+    let p = at + off;
     if t % 2 == 0 {
-        return default_uvs::default_size(s, at + off, kept, flags);
+        let size = default_uvs::default_size(s, p, kept, flags);
+        let sum = default_uvs::default_sum(s, p, kept, flags);
+        return TableMeasure {
+            size: size,
+            sum: sum,
+        };
     }
-    non_default_uvs::non_default_size(s, at + off, kept, map, requested)
+    let size = non_default_uvs::non_default_size(s, p, kept, map, requested);
+    let sum = non_default_uvs::non_default_sum(s, p, kept, map, requested);
+    TableMeasure {
+        size: size,
+        sum: sum,
+    }
 }
 
-// Whether the new tables i and j, both there, are equal. A default table never equals a non-default one. The flags are work room.
+// Whether the new tables i and j, both there, are equal. A default table never equals a non-default one, and tables of one sort from one place of the
+// source are equal; others are compared in full. The flags are work room.
 pub fn same_table(
     s: &[u8],
     at: usize,
@@ -85,6 +105,9 @@ pub fn same_table(
     }
     let p = source_table(s, at, len, kept, requested, i);
     let q = source_table(s, at, len, kept, requested, j);
+    if p == q {
+        return true;
+    }
     if i % 2 == 0 {
         return same_uvs::same_default(s, at + p, at + q, kept, flags, others);
     }

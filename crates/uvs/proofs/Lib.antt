@@ -1,3 +1,4 @@
 pub mod TablesLaws
 pub mod DefaultCases
 pub mod NonDefaultCases
+pub mod ChecksumLaws

@@ -1,3 +1,4 @@
 pub mod Tables
 pub mod NonDefault
 pub mod Default
+pub mod Checksum

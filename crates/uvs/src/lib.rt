@@ -1,7 +1,9 @@
-// When a default or non-default table of a format 14 subtable counts.
+// When a default or non-default table of a format 14 subtable counts, and a checksum of a new table's bytes, number by number.
 ghost use mathlib.Core.Path.{_≡_};
 ghost use Prim.Native.Nat.{_+_, _≤_};
 ghost use lib.ListN.{length};
+ghost use Rattle.number.specs.BigEndian.{enc};
+ghost use Rattle.uvs.specs.Checksum.{mixed};
 ghost use Rattle.uvs.specs.Tables.{counts, countsDefault, countsNonDefault};
 
 // A table of records of `size` bytes, `off` from the start of the subtable.
@@ -32,4 +34,25 @@ pub fn counts_non_default(s: &[u8], at: usize, len: usize, off: u32) -> bool
     ensures { λ r. ⌜ r ≡ countsNonDefault (now (s .entry)) at len off ⌝ }
 {
     counts(s, at, len, off, 5)
+}
+
+// A checksum with one byte more, the lowest of v.
+pub fn mix_byte(sum: u32, v: u32) -> u32
+    ensures { λ r. ⌜ r ≡ mixed sum (enc 1 v) ⌝ }
+{
+    ((sum as u64 * 16777619 + (v % 256) as u64) % 4294967296) as u32
+}
+
+// With the lowest two bytes of v.
+pub fn mix_u16(sum: u32, v: u32) -> u32
+    ensures { λ r. ⌜ r ≡ mixed sum (enc 2 v) ⌝ }
+{
+    mix_byte(mix_byte(sum, v / 256), v)
+}
+
+// With the lowest three.
+pub fn mix_u24(sum: u32, v: u32) -> u32
+    ensures { λ r. ⌜ r ≡ mixed sum (enc 3 v) ⌝ }
+{
+    mix_byte(mix_u16(sum, v / 256), v)
 }

@@ -6,17 +6,17 @@ use mathlib.Core.Path.{_≡_}
 use lib.ListN.{length}
 use Rattle.laws.specs.Select.{eqList}
 use Rattle.laws.proofs.SearchLaws.{Seeking, seeking}
-use Rattle.format14.proofs.PlacingLaws.{sizes-of}
+use Rattle.format14.proofs.LoopLaws.{alls}
 use Rattle.selector_tables.specs.Selectors.{given}
 use Rattle.selector_tables.specs.ByNumber.{slot}
 use Rattle.format14.proofs.later_equal.Statement.{statement}
 use Rattle.format14.proofs.later_equal.Tie as tie
 
 abbrev Inv-loop : tie.InvT-loop
-Inv-loop s at len kept map requested flags₀ others₀ lengths m t j₀ flags others j = Seeking (λ i. eqList (slot (given s at len kept map requested) t) (slot (given s at len kept map requested) i)) m (t + 1) j × ((length flags ≡ length flags₀) × (length others ≡ length others₀))
+Inv-loop s at len kept map requested flags₀ others₀ lengths sums m t j₀ flags others j = Seeking (λ i. eqList (slot (given s at len kept map requested) t) (slot (given s at len kept map requested) i)) m (t + 1) j × ((length flags ≡ length flags₀) × (length others ≡ length others₀))
 
 abbrev μ-loop : tie.MeasureT-loop
-μ-loop s at len kept map requested flags₀ others₀ lengths m t j₀ flags others j = m - j
+μ-loop s at len kept map requested flags₀ others₀ lengths sums m t j₀ flags others j = m - j
 
 add-j : tie.Need-add-j Inv-loop μ-loop
 add-j c = search needs
@@ -24,20 +24,8 @@ add-j c = search needs
 loop-holds : tie.Need-loop-holds Inv-loop μ-loop
 loop-holds c = (search (needs, seeking), search needs)
 
-mul-equal-tables : tie.Need-mul-equal-tables Inv-loop μ-loop
-mul-equal-tables c = search needs
-
-shared-slice-read-equal-tables : tie.Need-shared-slice-read-equal-tables Inv-loop μ-loop
-shared-slice-read-equal-tables c = search needs
-
-mul-equal-tables-2 : tie.Need-mul-equal-tables-2 Inv-loop μ-loop
-mul-equal-tables-2 c = search needs
-
-shared-slice-read-equal-tables-2 : tie.Need-shared-slice-read-equal-tables-2 Inv-loop μ-loop
-shared-slice-read-equal-tables-2 c = search needs
-
 equal-tables-requires : tie.Need-equal-tables-requires Inv-loop μ-loop
-equal-tables-requires c κs = (search needs, (omega arith, (omega arith, search sizes-of)))
+equal-tables-requires c κs = (search needs, (omega arith, (omega arith, (search alls, (search alls, search needs)))))
 
 same-length : tie.Need-same-length Inv-loop μ-loop
 same-length c = search needs
@@ -74,10 +62,6 @@ later-equal-spec =
     μ-loop
     add-j
     loop-holds
-    mul-equal-tables
-    shared-slice-read-equal-tables
-    mul-equal-tables-2
-    shared-slice-read-equal-tables-2
     equal-tables-requires
     same-length
     same-length-2

@@ -1,4 +1,4 @@
--- Lengths first, then places.
+-- Lengths and checksums first, then places.
 use native.Mathlib.Omega.{arith}
 use borrow.Author.Needs.{needs}
 use Rattle.format14.proofs.lay_out.Statement.{statement}
@@ -7,14 +7,20 @@ use Rattle.format14.proofs.lay_out.Tie as tie
 slice-aggregate-measure : tie.Need-slice-aggregate-measure
 slice-aggregate-measure c = search needs
 
+slice-aggregate-measure-2 : tie.Need-slice-aggregate-measure-2
+slice-aggregate-measure-2 c = search needs
+
 measure-requires : tie.Need-measure-requires
-measure-requires c κs = (search needs, (omega arith, omega arith))
+measure-requires c κs = (search needs, (omega arith, (omega arith, omega arith)))
 
 slice-aggregate-place-tables : tie.Need-slice-aggregate-place-tables
 slice-aggregate-place-tables c = search needs
 
+slice-aggregate-place-tables-2 : tie.Need-slice-aggregate-place-tables-2
+slice-aggregate-place-tables-2 c = search needs
+
 place-tables-requires : tie.Need-place-tables-requires
-place-tables-requires c κs = (search needs, (omega arith, (search needs, search needs)))
+place-tables-requires c κs = (search needs, (omega arith, (search needs, (search needs, search needs))))
 
 same-length : tie.Need-same-length
 same-length c = search needs
@@ -33,8 +39,10 @@ lay-out-spec =
     tie.close
     (tie.spec
     slice-aggregate-measure
+    slice-aggregate-measure-2
     measure-requires
     slice-aggregate-place-tables
+    slice-aggregate-place-tables-2
     place-tables-requires
     same-length
     same-length-2

@@ -10,11 +10,11 @@ use Rattle.format14.proofs.place_tables.Statement.{statement}
 use Rattle.format14.proofs.place_tables.Tie as tie
 
 abbrev Inv-loop : tie.InvT-loop
-Inv-loop s at len kept map requested flags₀ others₀ lengths ends₀ m tail₀ k₀ flags others ends tail k =
+Inv-loop s at len kept map requested flags₀ others₀ lengths sums ends₀ m tail₀ k₀ flags others ends tail k =
     Placing (slot (given s at len kept map requested)) m k ends tail × ((length flags ≡ length flags₀) × ((length others ≡ length others₀) × (length ends ≡ length ends₀)))
 
 abbrev μ-loop : tie.MeasureT-loop
-μ-loop s at len kept map requested flags₀ others₀ lengths ends₀ m tail₀ k₀ flags others ends tail k = k
+μ-loop s at len kept map requested flags₀ others₀ lengths sums ends₀ m tail₀ k₀ flags others ends tail k = k
 
 loop-holds : tie.Need-loop-holds Inv-loop μ-loop
 loop-holds c = (search placing, search needs)
@@ -41,7 +41,7 @@ loop-again : tie.Need-loop-again Inv-loop μ-loop
 loop-again c = (search placing, (omega arith, (omega arith, rw length-set (omega arith))))
 
 later-equal-requires : tie.Need-later-equal-requires Inv-loop μ-loop
-later-equal-requires c κs = (search needs, (omega arith, (search needs, omega arith)))
+later-equal-requires c κs = (search needs, (omega arith, (search needs, (search needs, omega arith))))
 
 mul-ends-2 : tie.Need-mul-ends-2 Inv-loop μ-loop
 mul-ends-2 c = search needs

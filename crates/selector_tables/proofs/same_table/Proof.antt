@@ -21,8 +21,8 @@ add-same-default-2 c = search needs
 
 same-default-requires : tie.Need-same-default-requires
 same-default-requires c κs = (
-  one-default _ _ _ _ _ _ _ _ _ _ (c .before .before .before .before .before .before .before .before .before .before .before .before .pre .0) (c .before .before .before .before .before .before .before .before .before .before .before .before .pre .1 .1 .1) (c .before .before .before .before .source-table .ensures) (c .before .before .before .source-table2 .ensures) _ (c .before .before .before .before .before .before .before .before .before .before .before .before .pre .1 .0) (c .before .before .if2 .taken),
-  (other-default _ _ _ _ _ _ _ _ _ _ (c .before .before .before .before .before .before .before .before .before .before .before .before .pre .0) (c .before .before .before .before .before .before .before .before .before .before .before .before .pre .1 .1 .1) (c .before .before .before .before .source-table .ensures) (c .before .before .before .source-table2 .ensures) _ (c .before .before .before .before .before .before .before .before .before .before .before .before .pre .1 .1 .0) (c .before .before .before .before .before .if1 .left) (c .before .before .if2 .taken), search needs),
+  one-default _ _ _ _ _ _ _ _ _ _ (c .before .before .before .before .before .before .before .before .before .before .before .before .before .pre .0) (c .before .before .before .before .before .before .before .before .before .before .before .before .before .pre .1 .1 .1) (c .before .before .before .before .before .source-table .ensures) (c .before .before .before .before .source-table2 .ensures) _ (c .before .before .before .before .before .before .before .before .before .before .before .before .before .pre .1 .0) (c .before .before .if3 .taken),
+  (other-default _ _ _ _ _ _ _ _ _ _ (c .before .before .before .before .before .before .before .before .before .before .before .before .before .pre .0) (c .before .before .before .before .before .before .before .before .before .before .before .before .before .pre .1 .1 .1) (c .before .before .before .before .before .source-table .ensures) (c .before .before .before .before .source-table2 .ensures) _ (c .before .before .before .before .before .before .before .before .before .before .before .before .before .pre .1 .1 .0) (c .before .before .before .before .before .before .if1 .left) (c .before .before .if3 .taken), search needs),
 )
 
 same-length : tie.Need-same-length
@@ -42,12 +42,15 @@ add-same-non-default-2 c = search needs
 
 same-non-default-requires : tie.Need-same-non-default-requires
 same-non-default-requires c κs = (
-  one-non-default _ _ _ _ _ _ _ _ _ _ (c .before .before .before .before .before .before .before .before .before .before .pre .0) (c .before .before .before .before .before .before .before .before .before .before .pre .1 .1 .1) (c .before .before .source-table .ensures) (c .before .source-table2 .ensures) (c .if2 .left),
-  other-non-default _ _ _ _ _ _ _ _ _ _ (c .before .before .before .before .before .before .before .before .before .before .pre .0) (c .before .before .before .before .before .before .before .before .before .before .pre .1 .1 .1) (c .before .before .source-table .ensures) (c .before .source-table2 .ensures) (c .before .before .before .if1 .left) (c .if2 .left),
+  one-non-default _ _ _ _ _ _ _ _ _ _ (c .before .before .before .before .before .before .before .before .before .before .before .pre .0) (c .before .before .before .before .before .before .before .before .before .before .before .pre .1 .1 .1) (c .before .before .before .source-table .ensures) (c .before .before .source-table2 .ensures) (c .if3 .left),
+  other-non-default _ _ _ _ _ _ _ _ _ _ (c .before .before .before .before .before .before .before .before .before .before .before .pre .0) (c .before .before .before .before .before .before .before .before .before .before .before .pre .1 .1 .1) (c .before .before .before .source-table .ensures) (c .before .before .source-table2 .ensures) (c .before .before .before .before .if1 .left) (c .if3 .left),
 )
 
 returns-3 : tie.Need-returns-3
 returns-3 c = search sames
+
+returns-4 : tie.Need-returns-4
+returns-4 c = search sames
 
 pub same-table-spec : {M : Type 1} → statement M
 same-table-spec =
@@ -56,13 +59,14 @@ same-table-spec =
     returns
     source-table-requires
     source-table-requires-2
+    returns-2
     add-same-default
     add-same-default-2
     same-default-requires
     same-length
     same-length-2
-    returns-2
+    returns-3
     add-same-non-default
     add-same-non-default-2
     same-non-default-requires
-    returns-3)
+    returns-4)

@@ -1,0 +1,57 @@
+-- Records mixed in and records still to come give the whole checksum.
+use borrow.Author.Needs.{needs}
+use Prim.Native.Nat.{_-_}
+use lib.ListN.{length}
+use native.Mathlib.Omega.{arith}
+use Rattle.default_uvs.proofs.StreamLaws.{Summed, summed}
+use Rattle.default_uvs.proofs.sum_ranges.Statement.{statement}
+use Rattle.default_uvs.proofs.sum_ranges.Tie as tie
+
+abbrev Inv-loop : tie.InvT-loop
+Inv-loop kept flags most i₀ sum₀ i sum = Summed most kept flags i sum
+
+abbrev μ-loop : tie.MeasureT-loop
+μ-loop kept flags most i₀ sum₀ i sum = length kept - i
+
+next-point-requires : tie.Need-next-point-requires Inv-loop μ-loop
+next-point-requires c κs = search needs
+
+loop-holds : tie.Need-loop-holds Inv-loop μ-loop
+loop-holds c = search summed
+
+next-range-requires : tie.Need-next-range-requires Inv-loop μ-loop
+next-range-requires c κs = search summed
+
+mul-mix-range : tie.Need-mul-mix-range Inv-loop μ-loop
+mul-mix-range c = search needs
+
+shared-slice-read-mix-range : tie.Need-shared-slice-read-mix-range Inv-loop μ-loop
+shared-slice-read-mix-range c = search needs
+
+mix-range-requires : tie.Need-mix-range-requires Inv-loop μ-loop
+mix-range-requires c κs = search needs
+
+loop-less : tie.Need-loop-less Inv-loop μ-loop
+loop-less c = omega arith
+
+loop-again : tie.Need-loop-again Inv-loop μ-loop
+loop-again c = search summed
+
+returns : tie.Need-returns Inv-loop μ-loop
+returns c = search summed
+
+pub sum-ranges-spec : {M : Type 1} → statement M
+sum-ranges-spec =
+    tie.close
+    (tie.spec
+    Inv-loop
+    μ-loop
+    next-point-requires
+    loop-holds
+    next-range-requires
+    mul-mix-range
+    shared-slice-read-mix-range
+    mix-range-requires
+    loop-less
+    loop-again
+    returns)

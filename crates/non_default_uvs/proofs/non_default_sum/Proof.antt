@@ -1,0 +1,78 @@
+-- Mappings mixed in and mappings still to come give the whole checksum.
+use borrow.Author.Needs.{needs}
+use Prim.Native.Nat.{_-_}
+use native.Mathlib.Omega.{arith}
+use Rattle.uvs.specs.NonDefault.{mappingAt, mappingBytes, keepsMapping}
+use Rattle.uvs.proofs.ChecksumLaws.{Summing, summing}
+use Rattle.non_default_uvs.proofs.MappingLaws.{sum-all}
+use Rattle.non_default_uvs.proofs.non_default_sum.Statement.{statement}
+use Rattle.non_default_uvs.proofs.non_default_sum.Tie as tie
+
+abbrev Inv-loop : tie.InvT-loop
+Inv-loop s p kept map requested m i₀ sum₀ i sum = Summing (mappingBytes map) (keepsMapping kept requested) (mappingAt s p) m i sum
+
+abbrev μ-loop : tie.MeasureT-loop
+μ-loop s p kept map requested m i₀ sum₀ i sum = m - i
+
+u32-at-requires : tie.Need-u32-at-requires Inv-loop μ-loop
+u32-at-requires c κs = search needs
+
+cast-m : tie.Need-cast-m Inv-loop μ-loop
+cast-m c = search needs
+
+loop-holds : tie.Need-loop-holds Inv-loop μ-loop
+loop-holds c = search summing
+
+add-from : tie.Need-add-from Inv-loop μ-loop
+add-from c = search needs
+
+mul-from : tie.Need-mul-from Inv-loop μ-loop
+mul-from c = search needs
+
+add-from-2 : tie.Need-add-from-2 Inv-loop μ-loop
+add-from-2 c = search needs
+
+keeps-mapping-requires : tie.Need-keeps-mapping-requires Inv-loop μ-loop
+keeps-mapping-requires c κs = search needs
+
+add-i : tie.Need-add-i Inv-loop μ-loop
+add-i c = search needs
+
+mix-mapping-requires : tie.Need-mix-mapping-requires Inv-loop μ-loop
+mix-mapping-requires c κs = search needs
+
+loop-less : tie.Need-loop-less Inv-loop μ-loop
+loop-less c = omega arith
+
+loop-again : tie.Need-loop-again Inv-loop μ-loop
+loop-again c = search summing
+
+loop-less-2 : tie.Need-loop-less-2 Inv-loop μ-loop
+loop-less-2 c = omega arith
+
+loop-again-2 : tie.Need-loop-again-2 Inv-loop μ-loop
+loop-again-2 c = search summing
+
+returns : tie.Need-returns Inv-loop μ-loop
+returns c = search sum-all
+
+pub non-default-sum-spec : {M : Type 1} → statement M
+non-default-sum-spec =
+    tie.close
+    (tie.spec
+    Inv-loop
+    μ-loop
+    u32-at-requires
+    cast-m
+    loop-holds
+    add-from
+    mul-from
+    add-from-2
+    keeps-mapping-requires
+    add-i
+    mix-mapping-requires
+    loop-less
+    loop-again
+    loop-less-2
+    loop-again-2
+    returns)

@@ -1,0 +1,50 @@
+-- The table found is the default or the non-default one by its number.
+use Rattle.selector_tables.proofs.ByNumberLaws.{sizes, sums, lents}
+use borrow.Author.Needs.{needs}
+use Rattle.selector_tables.proofs.measure_table.Statement.{statement}
+use Rattle.selector_tables.proofs.measure_table.Tie as tie
+
+source-table-requires : tie.Need-source-table-requires
+source-table-requires c κs = search needs
+
+returns : tie.Need-returns
+returns c = (search sizes, search sums)
+
+add-p : tie.Need-add-p
+add-p c = search needs
+
+default-size-requires : tie.Need-default-size-requires
+default-size-requires c κs = search lents
+
+default-sum-requires : tie.Need-default-sum-requires
+default-sum-requires c κs = (search lents, search lents)
+
+same-length : tie.Need-same-length
+same-length c = search needs
+
+returns-2 : tie.Need-returns-2
+returns-2 c = (search sizes, search sums)
+
+non-default-size-requires : tie.Need-non-default-size-requires
+non-default-size-requires c κs = search lents
+
+non-default-sum-requires : tie.Need-non-default-sum-requires
+non-default-sum-requires c κs = search lents
+
+returns-3 : tie.Need-returns-3
+returns-3 c = (search sizes, search sums)
+
+pub measure-table-spec : {M : Type 1} → statement M
+measure-table-spec =
+    tie.close
+    (tie.spec
+    source-table-requires
+    returns
+    add-p
+    default-size-requires
+    default-sum-requires
+    same-length
+    returns-2
+    non-default-size-requires
+    non-default-sum-requires
+    returns-3)
