@@ -32,7 +32,8 @@ use Rattle.made.proofs.LentLaws.{lent}
 use Rattle.made.proofs.ListedLaws.{listed-glyph}
 use Rattle.result.specs.Refusal.{refusalOf}
 use Rattle.result.specs.Result.{isWritten, makerOf, at, resultOf, resultLength, written}
-use Rattle.result.proofs.PlacesLaws.{Sound, maker-of, length-result, accepted-result}
+use Rattle.result.proofs.PlacesLaws.{Sound, maker-of, accepted-result}
+use Rattle.result.proofs.LengthLaws.{length-result}
 use Rattle.result.proofs.RefusalLaws.{passed}
 use Rattle.result.specs.Result.{makes}
 use Rattle.answers.specs.Answers.{answerBy, oldAnswer, newAnswer}
@@ -110,7 +111,7 @@ module _ (j : Job) (bytes : Bytes (j .source)) (accepted : refusalOf j ≡ 0) wh
   job-result = accepted-result j (plan j) job-sound
 
   pub job-length : length (resultOf j (plan j)) ≡ resultLength (plan j)
-  job-length = length-result j (plan j) job-sound
+  job-length = length-result j (plan j) (job-sound .made)
 
   -- a written record leads to the table of the first record that made one of its format
   pub job-maker : (k : ℕ) → isWritten (at (plan j) k) ≡ true → makerOf (at (plan j) k) k ≡ first (makes j (plan j) (formatOf (leadsTo (j .source) k))) 64 0

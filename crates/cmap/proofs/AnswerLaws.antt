@@ -21,10 +21,10 @@ use Rattle.made.proofs.PlanLaws.{plan-made}
 use Rattle.result.specs.Result.{written, resultOf, resultLength}
 use Rattle.result.specs.Refusal.{Case, firstOf, refusals, refusalOf, earlyRefusal, lateRefusal, rises}
 use Rattle.result.proofs.RefusalLaws.{early-passed, first-append, first-stays, refusal-early, refusal-late}
-use Rattle.writing.proofs.LengthLaws.{length-result}
+use Rattle.result.proofs.LengthLaws.{length-result}
 use Rattle.cmap.specs.declared.Answer.{Answer}
 use Rattle.cmap.specs.declared.Answer.the-variants.{Written, Refused, NoRoom}
-use Rattle.cmap.specs.Cmap.{result, numberIn, answerOf, laid, outputOf}
+use Rattle.cmap.specs.Cmap.{result, numberIn, answerOf, outputOf}
 use Rattle.rooms.specs.Rooms.{Passing, Planned}
 
 -- ---- the length of the result

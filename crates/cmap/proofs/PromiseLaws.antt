@@ -9,6 +9,7 @@ use lib.ListN.{length, getD, take, drop, length-append}
 use lib.Seq.{take-at}
 use borrow.Author.Tests.{eqb-true, ltb-true, ltb-false, ne-eqb}
 use Rattle.laws.specs.Choice.{pick}
+use Rattle.laws.specs.Lists.{laid}
 use Rattle.laws.proofs.ChoiceLaws.{by-pick, by-leb, false-true}
 use Rattle.laws.proofs.SomeLaws.{some-false}
 use Rattle.number.specs.Limits.{recordsMax}
@@ -26,7 +27,7 @@ use Rattle.cmap.specs.declared.Answer.the-variants.{Written, Refused, No
 use Rattle.cmap.specs.declared.Fate.{Fate}
 use Rattle.cmap.specs.declared.FateKind.the-variants.{Refused as FateRefused, NoSuchRecord}
 use Rattle.cmap.specs.Fates.{numberOf as fateNumberOf, kindOf, recordFate, noFate, fateOf}
-use Rattle.cmap.specs.Cmap.{numberOf, lengthOf, result, refusalsIn, numberIn, answerOf, laid, outputOf}
+use Rattle.cmap.specs.Cmap.{numberOf, lengthOf, result, refusalsIn, numberIn, answerOf, outputOf}
 use Rattle.cmap.proofs.AnswerLaws.{number-refused, number-passed}
 
 -- ---- the number

@@ -3,8 +3,9 @@ use Prim.Native.Nat.{ℕ}
 use mathlib.Core.List.{List, [], _∷_, _++_}
 use mathlib.Core.Bool.{Bool}
 use lib.Dec.{ltb, eqb}
-use lib.ListN.{length, drop}
+use lib.ListN.{length}
 use Rattle.laws.specs.Choice.{pick}
+use Rattle.laws.specs.Lists.{laid}
 use Rattle.listing.specs.Job.{Job}
 use Rattle.plan.specs.Plan.{plan}
 use Rattle.result.specs.Result.{written, resultOf}
@@ -48,10 +49,6 @@ answerOf j room =
     pick (eqb (numberIn j room) 0) (Written (length (result j)) (written (plan j)))
     (pick (eqb (numberIn j room) 10) (NoRoom (length (result j))) (Refused (numberIn j room)))
 
--- a list in the first places, and the rest as it was
-abbrev pub laid : List ℕ → List ℕ → List ℕ
-laid xs ys = xs ++ drop (length xs) ys
-
--- a refusal writes nothing
+-- a refusal writes nothing; an acceptance leaves the result, and then the rest as it was
 unfoldable pub outputOf : Job → List ℕ → List ℕ
 outputOf j out = pick (eqb (numberIn j (length out)) 0) (laid (result j) out) out

@@ -8,6 +8,7 @@ use lib.Dec.{ltb, eqb}
 use lib.ListN.{length, length-map}
 use borrow.Author.Tests.{eq-eqb, ne-eqb, eqb-false}
 use Rattle.laws.specs.Choice.{pick, either}
+use Rattle.laws.specs.Lists.{laid}
 use Rattle.laws.proofs.ChoiceLaws.{false-true}
 use Rattle.checks.specs.Checks.{badSizes}
 use Rattle.listing.specs.Job.{Job}
@@ -16,7 +17,7 @@ use Rattle.pairs.specs.declared.Pair.{Pair}
 use Rattle.pairs.specs.Pairs.{code, glyph, codesOf, glyphsOf}
 use Rattle.cmap.specs.declared.Answer.the-variants.{Refused}
 use Rattle.cmap.specs.declared.FateKind.the-variants.{Refused as FateRefused}
-use Rattle.cmap.specs.Cmap.{numberOf, refusalsIn, numberIn, answerOf, laid}
+use Rattle.cmap.specs.Cmap.{numberOf, refusalsIn, numberIn, answerOf}
 use Rattle.cmap.specs.Fates.{numberOf as fateNumberOf, noFate, fateOf}
 use Rattle.cmap.proofs.PromiseLaws.{number-answered, fate-number}
 use Rattle.crustedlane.specs.Calls.{broken, jobOf, subsetOf, recordFateOf, codesAfter, glyphsAfter}

@@ -13,7 +13,8 @@ use Rattle.cmap.specs.declared.Answer.{Answer}
 use Rattle.cmap.specs.declared.Answer.the-variants.{Refused}
 use Rattle.cmap.specs.declared.Fate.{Fate}
 use Rattle.cmap.specs.declared.FateKind.the-variants.{Refused as FateRefused}
-use Rattle.cmap.specs.Cmap.{answerOf, outputOf, laid}
+use Rattle.laws.specs.Lists.{laid}
+use Rattle.cmap.specs.Cmap.{answerOf, outputOf}
 use Rattle.cmap.specs.Fates.{fateOf, noFate}
 
 -- 1: a size is broken, or a slice of the work room has fewer places than there are pairs

@@ -1,8 +1,8 @@
--- Lists of numbers: rising ones, those kept by a test, and two columns as one list of pairs.
+-- Lists of numbers: rising ones, those kept by a test, two columns as one list of pairs, and a list laid over another.
 use Prim.Native.Nat.{ℕ, suc, _<_}
-use mathlib.Core.List.{List, [], _∷_}
+use mathlib.Core.List.{List, [], _∷_, _++_}
 use mathlib.Core.Bool.{Bool}
-use lib.ListN.{length, getD}
+use lib.ListN.{length, getD, drop}
 use Rattle.laws.specs.Choice.{pick}
 
 -- each number is below the next
@@ -24,3 +24,7 @@ abbrev pub pairs : List ℕ → List ℕ → List Pair
 pairs [] gs = []
 pairs (c ∷ cs) [] = []
 pairs (c ∷ cs) (g ∷ gs) = (c, g) ∷ pairs cs gs
+
+-- a list in the first places, and the rest as it was
+abbrev pub laid : List ℕ → List ℕ → List ℕ
+laid xs ys = xs ++ drop (length xs) ys

@@ -5,7 +5,7 @@ use native.Mathlib.Nat.{not-suc-le-zero, le-of-suc-le-suc}
 use native.Mathlib.Omega.{arith}
 use mathlib.Core.List.{List, [], _∷_, _++_}
 use lib.ListN.{length, getD, take, drop, set}
-use Rattle.cmap.specs.Cmap.{laid}
+use Rattle.laws.specs.Lists.{laid}
 
 -- ys with the first i of xs in its first places
 abbrev pub upto : ℕ → List ℕ → List ℕ → List ℕ

@@ -2,7 +2,7 @@
 ghost use mathlib.Core.Path.{_≡_};
 ghost use Prim.Native.Nat.{_≤_};
 ghost use lib.ListN.{length};
-ghost use Rattle.cmap.specs.Cmap.{laid};
+ghost use Rattle.laws.specs.Lists.{laid};
 ghost use Rattle.pairs.specs.Pairs.{codesOf, glyphsOf};
 
 // A listed code point and its new glyph.

@@ -20,9 +20,10 @@ use Rattle.listing.specs.Job.{Job}
 use Rattle.plan.specs.declared.Outcome.{Outcome}
 use Rattle.plan.specs.declared.Outcome.the-variants.{NotRetained, Skipped, Empty, TooLong, Covered, BadMapping, Served, Made}
 use Rattle.plan.specs.Plan.{tableOf, isMade, sizeOf}
-use Rattle.plan.proofs.OutcomeLaws.{made-size, unmade-size}
+use Rattle.plan.proofs.OutcomeLaws.{unmade-size}
 use Rattle.result.specs.Result.{isWritten, makerOf, at, countFrom, sizesFrom, written, offsetOf, recordBytes, recordsFrom, tablesBelow, resultOf, resultLength}
 use Rattle.result.proofs.CountLaws.{Ith, count-few, sizes-split, sizes-snoc}
+use Rattle.result.proofs.LengthLaws.{size-made, length-record, length-records, length-result}
 
 -- record m, not after record k, made the table that record k is written with
 pub record Maker (xs : List ℕ) (os : List Outcome) (k m : ℕ) : Type 0 where
@@ -57,46 +58,6 @@ pub record Entry (j : Job) (os : List Outcome) (i k : ℕ) : Type 0 where
   pub offset : offsetAt (resultOf j os) i ≡ offsetOf os (makerOf (at os k) k)
 
 module _ (j : Job) (os : List Outcome) (s : Sound j os) where
-  size-made : (k : ℕ) → isMade (at os k) ≡ true → sizeOf (at os k) ≡ length (tableOf j k)
-  size-made k e = s .made k (sizeOf (at os k)) (made-size (at os k) e)
-
-  -- ---- lengths
-
-  length-record : (k : ℕ) → length (recordBytes j os k) ≡ 8
-  length-record k = rw (length-append, length-append, length-enc, length-enc, length-enc)
-
-  length-records : (n k : ℕ) → length (recordsFrom j os n k) ≡ 8 * countFrom os n k
-  unfolding recordsFrom countFrom
-  length-records zero k = refl
-  length-records (suc n) k =
-      let r = length-records n (k + 1) in
-      by-test (length (recordsFrom j os (suc n) k) ≡ 8 * countFrom os (suc n) k) (isWritten (at os k))
-      (λ e. rw (e, length-append (recordBytes j os k) (recordsFrom j os n (k + 1)), length-record k, r) (omega arith))
-      (λ e. rw e r)
-
-  length-tables : (n : ℕ) → length (tablesBelow j os n) ≡ sizesFrom os n 0
-  unfolding tablesBelow sizesFrom
-  length-tables zero = refl
-  length-tables (suc n) =
-      let r = length-tables n in
-      let z = zero-add n in
-      by-test (length (tablesBelow j os (suc n)) ≡ sizesFrom os (suc n) 0) (isMade (at os n))
-      (λ e. rw (e, sizes-snoc os n 0, z, length-append (tableOf j n) (tablesBelow j os n), r, size-made n e) (omega arith))
-      (λ e. rw (e, sizes-snoc os n 0, z, r, unmade-size (at os n) e) (omega arith))
-
-  pub length-result : length (resultOf j os) ≡ resultLength os
-  unfolding resultOf
-  length-result =
-      rw (
-        length-append (enc 2 0) (enc 2 (written os) ++ (recordsFrom j os 64 0 ++ tablesBelow j os 64)),
-        length-append (enc 2 (written os)) (recordsFrom j os 64 0 ++ tablesBelow j os 64),
-        length-append (recordsFrom j os 64 0) (tablesBelow j os 64),
-        length-enc 2 0,
-        length-enc 2 (written os),
-        length-records 64 0,
-        length-tables 64,
-      ) (omega arith)
-
   -- ---- tables
 
   tables-stand : (n k : ℕ) → k < n → isMade (at os k) ≡ true → Stands (tablesBelow j os n) (sizesFrom os (n - (k + 1)) (k + 1)) (tableOf j k)
@@ -114,7 +75,7 @@ module _ (j : Job) (os : List Outcome) (s : Sound j os) where
       let r = tables-stand n k b m in
       by-test (Stands (tablesBelow j os (suc n)) (sizesFrom os (suc n - (k + 1)) (k + 1)) (tableOf j k)) (isMade (at os n))
       (λ e.
-      let l = size-made n e in
+      let l = size-made j os (s .made) n e in
       rw (z, sizes-snoc os (n - (k + 1)) (k + 1), y, e) (stands-behind (tableOf j n) (sizesFrom os (n - (k + 1)) (k + 1) + sizeOf (at os n)) r (omega arith)))
       (λ e. rw (z, sizes-snoc os (n - (k + 1)) (k + 1), y, e, unmade-size (at os n) e, add-zero) r))
 
@@ -129,7 +90,7 @@ module _ (j : Job) (os : List Outcome) (s : Sound j os) where
   records-stand (suc n) k (suc m) h w =
       let p : k + suc m ≡ k + 1 + m = omega arith in
       let r = records-stand n (k + 1) m (omega arith) (rw p at w) in
-      let l = length-record k in
+      let l = length-record j os k in
       by-test (Stands (recordsFrom j os (suc n) k) (8 * countFrom os (suc m) k) (recordBytes j os (k + suc m))) (isWritten (at os k))
       (λ e. rw (p, e) (stands-behind (recordBytes j os k) (8 * suc (countFrom os m (k + 1))) r (omega arith)))
       (λ e. rw (p, e) r)
@@ -151,7 +112,7 @@ module _ (j : Job) (os : List Outcome) (s : Sound j os) where
 
   pub table-stands : (k : ℕ) → isMade (at os k) ≡ true → Stands (resultOf j os) (offsetOf os k) (tableOf j k)
   table-stands k m =
-      let l = length-records 64 0 in
+      let l = length-records j os 64 0 in
       let st = tables-stand 64 k (written-below k (made-written (at os k) m)) m in
       body-stands (offsetOf os k) (stands-behind (recordsFrom j os 64 0) (8 * written os + sizesFrom os (64 - (k + 1)) (k + 1)) st (omega arith)) (omega arith)
 
@@ -168,7 +129,7 @@ module _ (j : Job) (os : List Outcome) (s : Sound j os) where
   accepted-result =
       let a = length-enc 2 0 in
       let f = count-few os 64 0 in
-      let l = length-result in
+      let l = length-result j os (s .made) in
       record {
         count = sym (be-stands-enc 2 (written os) (stands-behind (enc 2 0) 2 (stands-append [] (enc 2 (written os)) (recordsFrom j os 64 0 ++ tablesBelow j os 64)) (omega arith)) (omega arith));
         header = omega arith;

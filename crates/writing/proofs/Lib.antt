@@ -1,4 +1,3 @@
-pub mod LengthLaws
 pub mod PlannedLaws
 pub mod RecordsLaws
 pub mod TableLaws

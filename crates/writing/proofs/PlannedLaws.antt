@@ -15,9 +15,9 @@ use Rattle.plan.proofs.PlanLaws.{ready, prepared-again}
 use Rattle.made.proofs.MadeLaws.{made-length}
 use Rattle.made.proofs.PlanLaws.{Making, plan-past, plan-made, plan-served}
 use Rattle.result.specs.Result.{isWritten, makerOf, at, written, resultOf, resultLength}
-use Rattle.result.proofs.PlacesLaws.{made-is}
+use Rattle.plan.proofs.OutcomeLaws.{made-size}
 use Rattle.writing.specs.Writing.{Laid, Planned}
-use Rattle.writing.proofs.LengthLaws.{length-result}
+use Rattle.result.proofs.LengthLaws.{length-result}
 
 -- a job is planned, its work room written to
 pub planned : (j : Job) (m : ℕ) (fs ot tocs togs : List ℕ) → Prepared j m fs ot tocs togs
@@ -67,7 +67,7 @@ module _ (j : Job) (os : List Outcome) (count : ℕ) (fs tocs togs : List ℕ) (
   }
 
   pub making-of : (k : ℕ) → isMade (at os k) ≡ true → Making j k (sizeOf (at os k))
-  making-of k e = plan-made j few k (sizeOf (at os k)) (ap (λ (row : List Outcome). at row k) (sym (p .is)) ∙ made-is (at os k) e)
+  making-of k e = plan-made j few k (sizeOf (at os k)) (ap (λ (row : List Outcome). at row k) (sym (p .is)) ∙ made-size (at os k) e)
 
   -- each table is as long as its outcome says
   pub lengths : (k n : ℕ) → at os k ≡ Made n → n ≡ length (tableOf j k)

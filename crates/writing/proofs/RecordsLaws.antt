@@ -17,7 +17,7 @@ use Rattle.listing.specs.Job.{Job}
 use Rattle.plan.specs.declared.Outcome.{Outcome}
 use Rattle.plan.specs.declared.Outcome.the-variants.{NotRetained}
 use Rattle.result.specs.Result.{isWritten, makerOf, at, countFrom, offsetOf, recordBytes, recordsFrom}
-use Rattle.writing.proofs.LengthLaws.{length-record}
+use Rattle.result.proofs.LengthLaws.{length-record}
 use Rattle.writing.specs.Writing.{sourced, Recorded, Laid}
 
 -- ---- a record's numbers

@@ -14,9 +14,9 @@ use Rattle.plan.specs.declared.Outcome.the-variants.{NotRetained}
 use Rattle.plan.specs.Plan.{tableOf, isMade, sizeOf, Ready}
 use Rattle.result.specs.Result.{at, sizesFrom, tablesStart, tablesBelow, resultLength}
 use Rattle.result.proofs.CountLaws.{sizes-snoc}
-use Rattle.result.proofs.PlacesLaws.{not-made}
+use Rattle.plan.proofs.OutcomeLaws.{unmade-size}
 use Rattle.writing.specs.Writing.{Room, Planned}
-use Rattle.writing.proofs.LengthLaws.{size-made}
+use Rattle.result.proofs.LengthLaws.{size-made}
 use Rattle.writing.proofs.PlannedLaws.{planned-again, ready-of, making-of, lengths}
 
 -- the tables of the records from k on stand before `place`
@@ -67,7 +67,7 @@ module _ (j : Job) (os : List Outcome) (count : ℕ) (out₀ fs₀ tocs₀ togs�
           within = omega (arith, l .within);
           planned = l .planned;
           low = omega (arith, l .low);
-          room = omega (arith, l .room, sizes-down, not-made (at os (k - 1)) (sym q ∙ e));
+          room = omega (arith, l .room, sizes-down, unmade-size (at os (k - 1)) (sym q ∙ e));
           same = l .same;
           flags = l .flags;
           codes = l .codes;

@@ -9,19 +9,17 @@ use lib.ListN.{length, length-append}
 use Rattle.laws.proofs.ChoiceLaws.{by-test}
 use Rattle.number.specs.BigEndian.{enc}
 use Rattle.number.proofs.BigEndianLaws.{length-enc}
-use Rattle.source.specs.Header.{platformOf, encodingOf}
 use Rattle.listing.specs.Job.{Job}
 use Rattle.plan.specs.declared.Outcome.{Outcome}
 use Rattle.plan.specs.declared.Outcome.the-variants.{Made}
 use Rattle.plan.specs.Plan.{tableOf, isMade, sizeOf}
-use Rattle.result.specs.Result.{isWritten, makerOf, at, countFrom, sizesFrom, written, offsetOf, recordBytes, recordsFrom, tablesBelow, resultOf, resultLength}
+use Rattle.plan.proofs.OutcomeLaws.{made-size, unmade-size}
+use Rattle.result.specs.Result.{isWritten, at, countFrom, sizesFrom, written, recordBytes, recordsFrom, tablesBelow, resultOf, resultLength}
 use Rattle.result.proofs.CountLaws.{sizes-snoc}
-use Rattle.result.proofs.PlacesLaws.{made-is, not-made}
 
 module _ (j : Job) (os : List Outcome) where
   pub length-record : (k : ℕ) → length (recordBytes j os k) ≡ 8
-  length-record k =
-      rw (length-append, length-append, length-enc 2 (platformOf (j .source) k), length-enc 2 (encodingOf (j .source) k), length-enc 4 (offsetOf os (makerOf (at os k) k)))
+  length-record k = rw (length-append, length-append, length-enc, length-enc, length-enc)
 
   pub length-records : (n k : ℕ) → length (recordsFrom j os n k) ≡ 8 * countFrom os n k
   unfolding recordsFrom countFrom
@@ -34,9 +32,9 @@ module _ (j : Job) (os : List Outcome) where
 
   module _ (made : (k n : ℕ) → at os k ≡ Made n → n ≡ length (tableOf j k)) where
     pub size-made : (k : ℕ) → isMade (at os k) ≡ true → sizeOf (at os k) ≡ length (tableOf j k)
-    size-made k e = made k (sizeOf (at os k)) (made-is (at os k) e)
+    size-made k e = made k (sizeOf (at os k)) (made-size (at os k) e)
 
-    length-tables : (n : ℕ) → length (tablesBelow j os n) ≡ sizesFrom os n 0
+    pub length-tables : (n : ℕ) → length (tablesBelow j os n) ≡ sizesFrom os n 0
     unfolding tablesBelow sizesFrom
     length-tables zero = refl
     length-tables (suc n) =
@@ -44,7 +42,7 @@ module _ (j : Job) (os : List Outcome) where
         let z = zero-add n in
         by-test (length (tablesBelow j os (suc n)) ≡ sizesFrom os (suc n) 0) (isMade (at os n))
         (λ e. rw (e, sizes-snoc os n 0, z, length-append (tableOf j n) (tablesBelow j os n), r, size-made n e) (omega arith))
-        (λ e. rw (e, sizes-snoc os n 0, z, r, not-made (at os n) e) (omega arith))
+        (λ e. rw (e, sizes-snoc os n 0, z, r, unmade-size (at os n) e) (omega arith))
 
     pub length-result : length (resultOf j os) ≡ resultLength os
     unfolding resultOf
