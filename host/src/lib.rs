@@ -1,0 +1,5 @@
+//! The cmap subsetter for Rust hosts.
+//!
+//! [`plain`] is a second implementation of the rules in `docs/01-rules.md`, written from their text
+//! and not from the proved code. It exists to be compared with.
+pub mod plain;
