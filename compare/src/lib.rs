@@ -1,0 +1,13 @@
+//! Made-up jobs, given to an implementation of `docs/01-rules.md` and to the crate, and compared.
+pub mod agreed;
+pub mod aimed;
+pub mod domain;
+pub mod job;
+pub mod model;
+pub mod published;
+pub mod rng;
+pub mod shrink;
+pub mod subsetter;
+pub mod through;
+pub mod verdict;
+pub mod wild;
