@@ -22,6 +22,8 @@ pub enum Shape {
     LongRuns,
     /// Up to 64 records of different languages.
     ManyRecords,
+    /// A result whose length is about the program's room.
+    RoomBorder,
 }
 
 const LENGTHS: [u32; 14] = [1, 1, 2, 3, 3, 4, 4, 5, 7, 7, 8, 8, 9, 17];
@@ -38,6 +40,7 @@ pub fn model(seed: u64) -> (Shape, Model) {
             960..=963 => Shape::LongRanges,
             964..=971 => Shape::TooLongBorder,
             972..=973 => Shape::LongRuns,
+            974..=977 => Shape::RoomBorder,
             _ => Shape::ManyRecords,
         };
         let model = made(&mut rng, shape);
@@ -57,6 +60,7 @@ fn made(rng: &mut Rng, shape: Shape) -> Model {
         Shape::TooLongBorder => too_long_border(rng),
         Shape::LongRuns => long_runs(rng),
         Shape::ManyRecords => many_records(rng),
+        Shape::RoomBorder => room_border(rng),
     }
 }
 
@@ -619,5 +623,17 @@ fn many_records(rng: &mut Rng) -> Model {
         }
     }
     lists(rng, &mut model, &all);
+    model
+}
+
+fn room_border(rng: &mut Rng) -> Model {
+    let mut model = Model { map: vec![0; 8_192], ..Model::default() };
+    add(&mut model, (0, 3), everything(false));
+    let groups = vec![Group { start: 0, end: 0x11000, glyph: 0 }, Group { start: 0x12000, end: 0x12000, glyph: 1 }];
+    add(&mut model, (0, 4), Subtable::Twelve { language: 0, groups });
+    let (lone, in_array) = (rng.between(1634, 1636), rng.below(30));
+    model.pairs = (0..lone).map(|i| (2 * i + 1, if i < in_array { 2 * i as u16 + 1 } else { 60_000 })).collect();
+    model.kept.push(0x12000);
+    model.settle();
     model
 }

@@ -12,7 +12,7 @@ use compare::rng::Rng;
 use compare::shrink::shrink;
 use compare::subsetter::{Plain, Subsetter};
 use compare::verdict::{
-    against_itself, against_other, against_program, against_published, all_fates, told, told_reply,
+    against_itself, against_other, against_program, against_published, told, told_reply,
 };
 use compare::{aimed, job::Job, wild};
 use crustedlane::plain::{Answer, FateKind};
@@ -163,7 +163,7 @@ fn count(counts: &mut Counts, s: &dyn Subsetter, shape: Shape, model: &Model, jo
         Answer::Refused(number) => format!("answer {number}"),
         _ => "answer 0".into(),
     });
-    for fate in all_fates(s, job) {
+    for fate in s.fates(job) {
         match fate.kind {
             FateKind::WrittenAt(_) => counts.add("fate written"),
             FateKind::Refused(_) => {}
@@ -303,7 +303,7 @@ fn run_wild(arguments: &Arguments) -> bool {
             Answer::Refused(number) => format!("answer {number}"),
             _ => "answer 0".into(),
         });
-        for fate in all_fates(s, &wild.job) {
+        for fate in s.fates(&wild.job) {
             match fate.kind {
                 FateKind::WrittenAt(_) => counts.add("fate written"),
                 FateKind::Refused(_) => {}

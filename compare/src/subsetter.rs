@@ -1,6 +1,6 @@
 //! What is compared: an implementation of every call.
 use crate::job::Job;
-use crustedlane::plain::{self, Answer, Fate, Head};
+use crustedlane::plain::{self, Answer, Fate, FateKind, Head};
 
 /// An implementation of the rules.
 pub trait Subsetter {
@@ -10,6 +10,19 @@ pub trait Subsetter {
     fn old_head(&self, table: &[u8], c: u32) -> Head;
     fn new_head(&self, table: &[u8], c: u32) -> Head;
     fn program(&self, input: &[u8]) -> Vec<u8>;
+
+    /// The fates of all records in order; of a refused job the refusal alone.
+    fn fates(&self, job: &Job) -> Vec<Fate> {
+        let mut fates = Vec::new();
+        loop {
+            let fate = self.fate(job, fates.len());
+            match fate.kind {
+                FateKind::NoSuchRecord => return fates,
+                FateKind::Refused(_) => return vec![fate],
+                _ => fates.push(fate),
+            }
+        }
+    }
 }
 
 /// The plain implementation.
@@ -33,5 +46,10 @@ impl Subsetter for Plain {
     }
     fn program(&self, input: &[u8]) -> Vec<u8> {
         plain::job(input)
+    }
+    /// Made at once, since the plain implementation plans the whole job for each fate.
+    fn fates(&self, j: &Job) -> Vec<Fate> {
+        let fates = plain::fates(&j.source, &j.codes, &j.glyphs, &j.kept, &j.map, &j.requested);
+        fates.unwrap_or_else(|_| vec![self.fate(j, 0)])
     }
 }

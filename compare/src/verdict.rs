@@ -63,22 +63,9 @@ pub fn told_reply(reply: &Reply) -> String {
     }
 }
 
-/// All fates of a job, the "no such record" behind them left out.
-pub fn all_fates(s: &dyn Subsetter, job: &Job) -> Vec<Fate> {
-    let mut fates = Vec::new();
-    loop {
-        let fate = s.fate(job, fates.len());
-        match fate.kind {
-            FateKind::NoSuchRecord => return fates,
-            FateKind::Refused(_) => return vec![fate],
-            _ => fates.push(fate),
-        }
-    }
-}
-
 /// How an implementation's own answers to a job fail to agree with each other.
 pub fn against_itself(s: &dyn Subsetter, job: &Job, answer: &Answer) -> Option<String> {
-    let fates = all_fates(s, job);
+    let fates = s.fates(job);
     if let Answer::Refused(number) = answer {
         let refused = Fate { platform: 0, encoding: 0, kind: FateKind::Refused(*number) };
         return (fates != [refused]).then(|| format!("fates {fates:?} of refusal {number}"));
@@ -154,7 +141,7 @@ pub fn against_other(a: &dyn Subsetter, b: &dyn Subsetter, job: &Job, points: &[
             return Some(format!("in a room of {room} bytes"));
         }
     }
-    let (first_fates, second_fates) = (all_fates(a, job), all_fates(b, job));
+    let (first_fates, second_fates) = (a.fates(job), b.fates(job));
     if first_fates != second_fates || a.fate(job, 1_000_000) != b.fate(job, 1_000_000) {
         return Some(format!("fates {first_fates:?}, {second_fates:?}"));
     }
