@@ -83,7 +83,8 @@ fn stretches(rng: &mut Rng, low: u32, high: u32) -> Vec<(u32, u32)> {
 
 /// Stretches in several areas, borders among them.
 fn areas(rng: &mut Rng, bmp_only: bool) -> Vec<(u32, u32)> {
-    let bmp = [(0, 0x1F), (0x20, 0x7F), (0x3000, 0x30FF), (0xD7F0, 0xE00F), (0xFDF0, 0xFE20), (0xFFD0, 0xFFFE)];
+    let bmp =
+        [(0, 0x1F), (0x20, 0x7F), (0x3000, 0x30FF), (0xD7F0, 0xE00F), (0xFDF0, 0xFE20), (0xFFD0, 0xFFFE)];
     let above = [(0x10000, 0x10040), (0x1F600, 0x1F680), (0xE0100, 0xE01EF), (0x10FFD0, LIMIT)];
     let mut list = Vec::new();
     for &(low, high) in bmp.iter().chain(if bmp_only { &[] } else { &above[..] }) {
@@ -105,7 +106,7 @@ fn language(rng: &mut Rng) -> u16 {
 fn four(rng: &mut Rng, areas: &[(u32, u32)]) -> Subtable {
     let (mut segments, mut array): (Vec<Segment>, Vec<u16>) = (Vec::new(), Vec::new());
     for &(start, end) in areas.iter().filter(|a| a.1 < 0xFFFF) {
-        let mut segment = Segment { start, end, delta: rng.next() as u16, array_at: None };
+        let mut segment = Segment { start, end, delta: rng.draw() as u16, array_at: None };
         match rng.below(8) {
             0 => segment.delta = 0,
             1 => segment.delta = (65_536 - rng.between(start, end)) as u16,
@@ -125,7 +126,12 @@ fn four(rng: &mut Rng, areas: &[(u32, u32)]) -> Subtable {
     }
     if rng.once_in(5) {
         let last = segments.last().map_or(0xFFE0, |s| s.end + 1);
-        segments.push(Segment { start: rng.between(last.max(0xFFE0), 0xFFFF), end: 0xFFFF, delta: rng.pick(&[0x20, 1, 0x30, 0]), array_at: None });
+        segments.push(Segment {
+            start: rng.between(last.max(0xFFE0), 0xFFFF),
+            end: 0xFFFF,
+            delta: rng.pick(&[0x20, 1, 0x30, 0]),
+            array_at: None,
+        });
     } else if segments.is_empty() || !rng.once_in(8) {
         segments.push(Segment { start: 0xFFFF, end: 0xFFFF, delta: 1, array_at: None });
     }
@@ -314,7 +320,7 @@ fn add(model: &mut Model, (platform, encoding): (u16, u16), subtable: Subtable) 
 fn raw(rng: &mut Rng) -> Subtable {
     let format = rng.pick(&[0, 2, 6, 8, 10, 13, 5, 1000]);
     let mut bytes = vec![(format >> 8) as u8, format as u8];
-    bytes.extend((0..rng.pick(&[2, 10, 300])).map(|_| rng.next() as u8));
+    bytes.extend((0..rng.pick(&[2, 10, 300])).map(|_| rng.draw() as u8));
     Subtable::Raw(bytes)
 }
 
@@ -405,7 +411,11 @@ fn twins(rng: &mut Rng) -> Model {
         let other = if pairs[1] == (3, 10) { (0, 4) } else { (3, 10) };
         match rng.below(3) {
             0 => add(&mut model, other, twelve(rng, &all, n)),
-            1 => model.records.push(Record { platform: other.0, encoding: other.1, leads_to: model.subtables.len() - 1 }),
+            1 => model.records.push(Record {
+                platform: other.0,
+                encoding: other.1,
+                leads_to: model.subtables.len() - 1,
+            }),
             _ => add(&mut model, other, twin.clone()),
         }
     }
@@ -617,7 +627,9 @@ fn many_records(rng: &mut Rng) -> Model {
         if matches!(subtable, Subtable::Twelve { .. }) && !matches!(pair, (0, 4) | (3, 10)) {
             continue;
         }
-        let same = |r: &Record| (r.platform, r.encoding) == pair && model.subtables[r.leads_to].language() == subtable.language();
+        let same = |r: &Record| {
+            (r.platform, r.encoding) == pair && model.subtables[r.leads_to].language() == subtable.language()
+        };
         if !model.records.iter().any(same) {
             add(&mut model, pair, subtable);
         }
@@ -629,10 +641,12 @@ fn many_records(rng: &mut Rng) -> Model {
 fn room_border(rng: &mut Rng) -> Model {
     let mut model = Model { map: vec![0; 8_192], ..Model::default() };
     add(&mut model, (0, 3), everything(false));
-    let groups = vec![Group { start: 0, end: 0x11000, glyph: 0 }, Group { start: 0x12000, end: 0x12000, glyph: 1 }];
+    let groups =
+        vec![Group { start: 0, end: 0x11000, glyph: 0 }, Group { start: 0x12000, end: 0x12000, glyph: 1 }];
     add(&mut model, (0, 4), Subtable::Twelve { language: 0, groups });
     let (lone, in_array) = (rng.between(1634, 1636), rng.below(30));
-    model.pairs = (0..lone).map(|i| (2 * i + 1, if i < in_array { 2 * i as u16 + 1 } else { 60_000 })).collect();
+    model.pairs =
+        (0..lone).map(|i| (2 * i + 1, if i < in_array { 2 * i as u16 + 1 } else { 60_000 })).collect();
     model.kept.push(0x12000);
     model.settle();
     model

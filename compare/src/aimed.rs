@@ -198,7 +198,15 @@ fn sizes_and_lists() -> Vec<(&'static str, Job)> {
         ("size: n = 65,536", changed(&|j| j.map = vec![1; 65_536])),
         ("size: source of 1,048,577 bytes", changed(&|j| j.source.resize(1_048_577, 0))),
         ("size: 131,073 kept points", changed(&|j| j.kept = (0..131_073).collect())),
-        ("size: 65,536 pairs", job(&[(3, 10, twelve(&[(0, 0x10FFFF, 1)]))], &stretches(&[(0, 0, 32_768), (32_768, 0, 32_768)]), &[], 2)),
+        (
+            "size: 65,536 pairs",
+            job(
+                &[(3, 10, twelve(&[(0, 0x10FFFF, 1)]))],
+                &stretches(&[(0, 0, 32_768), (32_768, 0, 32_768)]),
+                &[],
+                2,
+            ),
+        ),
         ("pairs: glyph 65,535", changed(&|j| j.glyphs[0] = 65_535)),
         ("pairs: a point twice", changed(&|j| (j.codes, j.glyphs) = (vec![0x41, 0x41], vec![1, 1]))),
         ("kept lacks a listed point", changed(&|j| j.kept = vec![0x42])),
@@ -207,22 +215,52 @@ fn sizes_and_lists() -> Vec<(&'static str, Job)> {
 }
 
 fn damaged() -> Vec<(&'static str, Job)> {
-    let array = |at| bytes_4(0, &[Segment { array_at: Some(at), ..segment(0x41, 0x42, 0) }, segment(0xFFFF, 0xFFFF, 1)], &[7, 8]);
-    let with_12 = |four: Vec<u8>| job(&[(0, 3, four), (0, 4, twelve(&[(0x41, 0x42, 1), (0x10000, 0x10000, 1)]))], &[A, (0x42, 3)], &[0x10000], 9);
+    let array = |at| {
+        bytes_4(
+            0,
+            &[Segment { array_at: Some(at), ..segment(0x41, 0x42, 0) }, segment(0xFFFF, 0xFFFF, 1)],
+            &[7, 8],
+        )
+    };
+    let with_12 = |four: Vec<u8>| {
+        job(
+            &[(0, 3, four), (0, 4, twelve(&[(0x41, 0x42, 1), (0x10000, 0x10000, 1)]))],
+            &[A, (0x42, 3)],
+            &[0x10000],
+            9,
+        )
+    };
     vec![
         ("source of 3 bytes", Job { source: vec![0, 0, 0], ..job(&[(0, 3, c1())], &[A], &[], 2) }),
         ("length field of format 4 too short", with(job(&[(0, 3, c1())], &[A], &[], 2), 14, &[0, 31])),
         ("length field of format 4 past the end", with(job(&[(0, 3, c1())], &[A], &[], 2), 14, &[0, 33])),
         ("array index partly outside", with_12(array(1))),
         ("array index wholly outside", with_12(array(2))),
-        ("format 14 at (3,9)", job(&[(0, 3, c1()), (3, 9, ranges(0xFE00, &[(0x41, 0)]))], &[A], &[0xFE00], 2)),
-        ("format 14 at platform 7", job(&[(0, 3, c1()), (7, 1, ranges(0xFE00, &[(0x41, 0)]))], &[A], &[0xFE00], 2)),
-        ("format 14 at (3,1)", job(&[(0, 3, c1()), (3, 1, ranges(0xFE00, &[(0x41, 0)]))], &[A], &[0xFE00], 2)),
+        (
+            "format 14 at (3,9)",
+            job(&[(0, 3, c1()), (3, 9, ranges(0xFE00, &[(0x41, 0)]))], &[A], &[0xFE00], 2),
+        ),
+        (
+            "format 14 at platform 7",
+            job(&[(0, 3, c1()), (7, 1, ranges(0xFE00, &[(0x41, 0)]))], &[A], &[0xFE00], 2),
+        ),
+        (
+            "format 14 at (3,1)",
+            job(&[(0, 3, c1()), (3, 1, ranges(0xFE00, &[(0x41, 0)]))], &[A], &[0xFE00], 2),
+        ),
         ("(3,1) leads nowhere", with(job(&[(0, 3, c1()), (3, 1, c1())], &[A], &[], 2), 16, &[0, 0, 1, 0])),
         (
             "overlapping segments, the last decides",
             job(
-                &[(0, 3, bytes_4(0, &[segment(0x40, 0x42, 1), segment(0x41, 0x41, 0xFFBF), segment(0xFFFF, 0xFFFF, 1)], &[]))],
+                &[(
+                    0,
+                    3,
+                    bytes_4(
+                        0,
+                        &[segment(0x40, 0x42, 1), segment(0x41, 0x41, 0xFFBF), segment(0xFFFF, 0xFFFF, 1)],
+                        &[],
+                    ),
+                )],
                 &[A, (0x42, 3)],
                 &[],
                 2,
@@ -235,10 +273,17 @@ fn damaged() -> Vec<(&'static str, Job)> {
         (
             "a selector twice",
             job(
-                &[(0, 3, c1()), (0, 5, bytes_14(&[
-                    Selector { point: 0xFE00, ranges: Some(vec![(0x41, 0)]), mappings: None },
-                    Selector { point: 0xFE00, ranges: None, mappings: Some(vec![(0x41, 1)]) },
-                ]))],
+                &[
+                    (0, 3, c1()),
+                    (
+                        0,
+                        5,
+                        bytes_14(&[
+                            Selector { point: 0xFE00, ranges: Some(vec![(0x41, 0)]), mappings: None },
+                            Selector { point: 0xFE00, ranges: None, mappings: Some(vec![(0x41, 1)]) },
+                        ]),
+                    ),
+                ],
                 &[A],
                 &[0xFE00],
                 2,

@@ -41,9 +41,7 @@ fn apart(list: impl Iterator<Item = (u32, u32)>) -> bool {
 }
 
 fn sound_4(segments: &[Segment], array: &[u16]) -> Result<(), &'static str> {
-    let inside = |x: &Segment| {
-        x.array_at.is_none_or(|at| ((at + x.end - x.start) as usize) < array.len())
-    };
+    let inside = |x: &Segment| x.array_at.is_none_or(|at| ((at + x.end - x.start) as usize) < array.len());
     if segments.is_empty() || 16 + 8 * segments.len() + 2 * array.len() > 65_535 {
         Err("format 4 of no length that can be told")
     } else if !apart(segments.iter().map(|x| (x.start, x.end))) || segments.iter().any(|x| x.end > 0xFFFF) {

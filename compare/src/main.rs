@@ -11,10 +11,8 @@ use compare::published::{Published, Reply};
 use compare::rng::Rng;
 use compare::shrink::shrink;
 use compare::subsetter::{Plain, Subsetter};
-use compare::verdict::{
-    against_itself, against_other, against_program, against_published, told, told_reply,
-};
-use compare::{aimed, job::Job, wild};
+use compare::verdict::{against_itself, against_other, against_program, against_published, told, told_reply};
+use compare::{aimed, job::Job, through, wild};
 use crustedlane::plain::{Answer, FateKind};
 use std::collections::BTreeMap;
 use std::io::Write;
@@ -188,15 +186,54 @@ fn count(counts: &mut Counts, s: &dyn Subsetter, shape: Shape, model: &Model, jo
             let r = ranges.len();
             let border = job.kept.len() * (usize::BITS - r.leading_zeros()) as usize;
             if r == border || r == border + 1 {
-                counts.add(format!("default table with r {} the border", if r == border { "at" } else { "one over" }));
+                counts.add(format!(
+                    "default table with r {} the border",
+                    if r == border { "at" } else { "one over" }
+                ));
             }
         }
     }
-    if job.codes.last() == Some(&0xFFFF) {
-        counts.add("last listed point U+FFFF");
+    count_borders(counts, model, answer);
+}
+
+/// Borders that an agreed job touches.
+fn count_borders(counts: &mut Counts, model: &Model, answer: &Answer) {
+    for border in [0xFFFF, 0x10000, 0x10FFFF] {
+        if model.pairs.binary_search_by_key(&border, |p| p.0).is_ok() {
+            counts.add(format!("border: {border:#X} listed"));
+        }
     }
-    if job.codes.last() == Some(&0x10FFFF) {
-        counts.add("last listed point 0x10FFFF");
+    let mut length = 1;
+    for (k, pair) in model.pairs.iter().enumerate() {
+        let next = model.pairs.get(k + 1);
+        if next.is_some_and(|n| n.0 == pair.0 + 1 && u32::from(n.1) == u32::from(pair.1) + 1) {
+            length += 1;
+            continue;
+        }
+        if matches!(length, 3 | 4 | 7 | 8 | 9 | 32_760..) {
+            counts.add(format!("border: run of {length:>5}"));
+        }
+        length = 1;
+    }
+    let groups = model.subtables.iter().filter_map(|t| match t {
+        Subtable::Twelve { groups, .. } => Some(groups),
+        _ => None,
+    });
+    for group in groups.flatten() {
+        let last = i64::from(group.glyph) + i64::from(group.end) - i64::from(group.start);
+        match last - model.map.len() as i64 {
+            over @ -1..=1 => counts.add(format!("border: group whose last glyph is n{over:+}")),
+            _ => {}
+        }
+    }
+    if let Some(result) = match answer {
+        Answer::Written { bytes, .. } => through::read(bytes),
+        _ => None,
+    } {
+        let long = |length: usize| (65_500..65_536).contains(&length);
+        for (_, _, table) in result.records.iter().filter(|r| r.2[1] == 4 && long(r.2.len())) {
+            counts.add(format!("border: format 4 of {} bytes written", table.len()));
+        }
     }
 }
 
@@ -226,7 +263,9 @@ fn run_agreed(arguments: &Arguments) -> bool {
                     let versus = against_published(&answer, reply);
                     if versus.is_none() && matches!(answer, Answer::Written { .. }) {
                         counts.add(match (&answer, reply) {
-                            (Answer::Written { bytes, .. }, Reply::Table(t)) if bytes == t => "results equal to the crate's byte for byte, the order of tables too",
+                            (Answer::Written { bytes, .. }, Reply::Table(t)) if bytes == t => {
+                                "results equal to the crate's byte for byte, the order of tables too"
+                            }
                             _ => "results equal to the crate's through offsets only",
                         });
                     }
@@ -270,7 +309,7 @@ fn against_program_of(s: &dyn Subsetter, case: &Case, job: &Job) -> Option<Strin
 fn smallest(s: &dyn Subsetter, published: &Published, model: &Model) {
     let difference = |m: &Model| {
         let job = m.to_job();
-        against_published(&s.subset(&job, usize::MAX), &published.ask(&[job.clone()])[0])
+        against_published(&s.subset(&job, usize::MAX), &published.ask(std::slice::from_ref(&job))[0])
     };
     let small = shrink(model, &|m| difference(m).is_some());
     println!("  smallest: {small:?}");

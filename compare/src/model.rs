@@ -29,9 +29,18 @@ pub struct Selector {
 /// What a record leads to.
 #[derive(Clone, Debug, PartialEq, Eq)]
 pub enum Subtable {
-    Four { language: u16, segments: Vec<Segment>, array: Vec<u16> },
-    Twelve { language: u32, groups: Vec<Group> },
-    Fourteen { selectors: Vec<Selector> },
+    Four {
+        language: u16,
+        segments: Vec<Segment>,
+        array: Vec<u16>,
+    },
+    Twelve {
+        language: u32,
+        groups: Vec<Group>,
+    },
+    Fourteen {
+        selectors: Vec<Selector>,
+    },
     /// Any other bytes.
     Raw(Vec<u8>),
 }
@@ -155,8 +164,7 @@ pub fn cmap(records: &[(u16, u16, usize)], subtables: &[Vec<u8>]) -> Vec<u8> {
 impl Model {
     /// The source's bytes.
     pub fn source(&self) -> Vec<u8> {
-        let records: Vec<_> =
-            self.records.iter().map(|r| (r.platform, r.encoding, r.leads_to)).collect();
+        let records: Vec<_> = self.records.iter().map(|r| (r.platform, r.encoding, r.leads_to)).collect();
         let subtables: Vec<_> = self.subtables.iter().map(Subtable::to_bytes).collect();
         cmap(&records, &subtables)
     }

@@ -8,7 +8,8 @@ impl Rng {
         Self(seed.wrapping_mul(0x9E37_79B9_7F4A_7C15) ^ 0x5851_F42D_4C95_7F2D)
     }
 
-    pub fn next(&mut self) -> u64 {
+    /// The next 64 bits.
+    pub fn draw(&mut self) -> u64 {
         self.0 = self.0.wrapping_add(0x9E37_79B9_7F4A_7C15);
         let mut z = self.0;
         z = (z ^ (z >> 30)).wrapping_mul(0xBF58_476D_1CE4_E5B9);
@@ -18,7 +19,7 @@ impl Rng {
 
     /// From 0 up to, and without, `n`.
     pub fn below(&mut self, n: u32) -> u32 {
-        (self.next() >> 11).checked_rem(n.into()).expect("something to choose from") as u32
+        (self.draw() >> 11).checked_rem(n.into()).expect("something to choose from") as u32
     }
 
     /// From `low` up to, and with, `high`.

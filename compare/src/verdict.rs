@@ -73,7 +73,8 @@ pub fn against_itself(s: &dyn Subsetter, job: &Job, answer: &Answer) -> Option<S
     let Answer::Written { bytes, records } = answer else {
         return Some("no room in all memory".into());
     };
-    if s.subset(job, bytes.len()) != *answer || s.subset(job, bytes.len() - 1) != Answer::NoRoom(bytes.len()) {
+    if s.subset(job, bytes.len()) != *answer || s.subset(job, bytes.len() - 1) != Answer::NoRoom(bytes.len())
+    {
         return Some("room".into());
     }
     let at = |k: usize, i: usize| u32::from(bytes[4 + 8 * k + i]);

@@ -22,9 +22,9 @@ pub fn wild(seed: u64) -> Wild {
     let rng = &mut rng;
     let mut job = match rng.below(16) {
         0 => random(rng),
-        1 | 2 => agreed::model(rng.next()).1.to_job(),
+        1 | 2 => agreed::model(rng.draw()).1.to_job(),
         _ => {
-            let mut model = agreed::model(rng.next()).1;
+            let mut model = agreed::model(rng.draw()).1;
             for _ in 0..rng.between(1, 6) {
                 loosen(rng, &mut model);
             }
@@ -50,7 +50,8 @@ pub fn wild(seed: u64) -> Wild {
 /// Bytes and lists without any sense.
 fn random(rng: &mut Rng) -> Job {
     let length = rng.pick(&[0, 1, 3, 4, 5, 12, 44, 100, 400]);
-    let small = |rng: &mut Rng| if rng.once_in(2) { rng.pick(&[0, 1, 3, 4, 12, 14]) } else { rng.next() as u8 };
+    let small =
+        |rng: &mut Rng| if rng.once_in(2) { rng.pick(&[0, 1, 3, 4, 12, 14]) } else { rng.draw() as u8 };
     let mut source: Vec<u8> = (0..length).map(|_| small(rng)).collect();
     if source.len() >= 4 && !rng.once_in(4) {
         source[..4].copy_from_slice(&[0, 0, 0, rng.below(6) as u8]);
@@ -60,7 +61,7 @@ fn random(rng: &mut Rng) -> Job {
     codes.dedup();
     Job {
         source,
-        glyphs: codes.iter().map(|_| rng.next() as u16).collect(),
+        glyphs: codes.iter().map(|_| rng.draw() as u16).collect(),
         kept: codes.clone(),
         codes,
         map: (0..rng.below(20)).map(|_| rng.below(9) as u16).collect(),
@@ -117,14 +118,14 @@ fn loosen_subtable(rng: &mut Rng, subtable: &mut Subtable) {
                 0 => rng.shuffle(segments),
                 1 => segments[k].start = odd_point(rng) & 0xFFFF,
                 2 => segments[k].end = odd_point(rng) & 0xFFFF,
-                3 => segments[k].delta = rng.next() as u16,
+                3 => segments[k].delta = rng.draw() as u16,
                 4 => segments[k].array_at = Some(rng.below(array.len() as u32 + 20)),
                 5 => array.truncate(rng.below(array.len() as u32 + 1) as usize),
                 6 => *language = rng.pick(&[0, 1, 5]),
                 _ => {
                     let (start, end) = (rng.below(0x10000), rng.below(0x10000));
                     let array_at = rng.once_in(2).then_some(rng.below(9));
-                    let new = Segment { start, end, delta: rng.next() as u16, array_at };
+                    let new = Segment { start, end, delta: rng.draw() as u16, array_at };
                     segments.insert(k, new);
                 }
             }
@@ -147,7 +148,14 @@ fn loosen_subtable(rng: &mut Rng, subtable: &mut Subtable) {
             let k = rng.below(selectors.len() as u32 + 1) as usize;
             match rng.below(8) {
                 0 => rng.shuffle(selectors),
-                1 => selectors.insert(k, Selector { point: odd_point(rng) & 0xFFFFFF, ranges: Some(vec![(0, 255)]), mappings: None }),
+                1 => selectors.insert(
+                    k,
+                    Selector {
+                        point: odd_point(rng) & 0xFFFFFF,
+                        ranges: Some(vec![(0, 255)]),
+                        mappings: None,
+                    },
+                ),
                 2 if k < selectors.len() => {
                     let twice = selectors[k].clone();
                     selectors.insert(k, twice);
@@ -166,9 +174,10 @@ fn loosen_selector(rng: &mut Rng, selector: &mut Selector) {
     let mappings = selector.mappings.get_or_insert_with(Vec::new);
     match rng.below(5) {
         0 => rng.shuffle(ranges),
-        1 => ranges.push((odd_point(rng) & 0xFFFFFF, rng.next() as u8)),
+        1 => ranges.push((odd_point(rng) & 0xFFFFFF, rng.draw() as u8)),
         2 => {
-            let more: Vec<_> = (0..rng.below(300)).map(|_| (rng.below(0x300), rng.pick(&[0, 1, 9, 255]))).collect();
+            let more: Vec<_> =
+                (0..rng.below(300)).map(|_| (rng.below(0x300), rng.pick(&[0, 1, 9, 255]))).collect();
             ranges.extend(more);
         }
         3 => rng.shuffle(mappings),
@@ -180,7 +189,7 @@ fn loosen_selector(rng: &mut Rng, selector: &mut Selector) {
 fn damage(rng: &mut Rng, bytes: &mut Vec<u8>) {
     let length = bytes.len() as u32;
     if length < 4 {
-        bytes.push(rng.next() as u8);
+        bytes.push(rng.draw() as u8);
         return;
     }
     let put = |bytes: &mut Vec<u8>, at: u32, width: usize, n: u32| {
@@ -192,7 +201,9 @@ fn damage(rng: &mut Rng, bytes: &mut Vec<u8>) {
     };
     let count = u32::from(bytes[3]).min((length - 4) / 8);
     let record = if count > 0 { 4 + 8 * rng.below(count) } else { 4 };
-    let offset = bytes.get(record as usize + 4..record as usize + 8).map_or(0, |b| u32::from_be_bytes(b.try_into().expect("four")));
+    let offset = bytes
+        .get(record as usize + 4..record as usize + 8)
+        .map_or(0, |b| u32::from_be_bytes(b.try_into().expect("four")));
     match rng.below(12) {
         0 => bytes[rng.below(length) as usize] ^= 1 << rng.below(8),
         1 => put(bytes, rng.below(length), 2, rng.pick(&ODD)),
@@ -202,9 +213,11 @@ fn damage(rng: &mut Rng, bytes: &mut Vec<u8>) {
         5 => put(bytes, record + 4, 4, rng.pick(&[2, 0, 4, u32::MAX, u32::MAX - 15, length, length - 1])),
         6 => put(bytes, offset.saturating_add(2).min(length), 2, rng.below(length + 8)),
         7 => put(bytes, offset.saturating_add(4).min(length), 4, rng.below(length + 8)),
-        8 => put(bytes, offset.saturating_add(6).min(length), 2, rng.pick(&[0, 1, 2, 3, 4, 6, 8, 20, 0xFFFE])),
+        8 => {
+            put(bytes, offset.saturating_add(6).min(length), 2, rng.pick(&[0, 1, 2, 3, 4, 6, 8, 20, 0xFFFE]))
+        }
         9 => bytes.truncate(rng.below(length) as usize),
-        10 => bytes.extend((0..rng.below(30)).map(|_| rng.next() as u8)),
+        10 => bytes.extend((0..rng.below(30)).map(|_| rng.draw() as u8)),
         _ => {
             let (from, to, size) = (rng.below(length), rng.below(length), rng.between(1, 40));
             for i in 0..size {
@@ -250,7 +263,7 @@ fn break_lists(rng: &mut Rng, job: &mut Job) {
 
 /// Code points to ask heads about.
 fn questions(rng: &mut Rng, job: &Job) -> Vec<u32> {
-    let mut points = vec![0, 0xFFFF, 0x10000, u32::MAX, odd_point(rng), rng.next() as u32];
+    let mut points = vec![0, 0xFFFF, 0x10000, u32::MAX, odd_point(rng), rng.draw() as u32];
     for _ in 0..8 {
         let from = if rng.once_in(2) { &job.codes } else { &job.kept };
         if !from.is_empty() {
@@ -266,7 +279,7 @@ fn program_input(rng: &mut Rng, job: &Job) -> Vec<u8> {
     let length = bytes.len() as u32;
     match rng.below(12) {
         0 => bytes.truncate(rng.below(length) as usize),
-        1 => bytes.extend((0..rng.between(1, 3)).map(|_| rng.next() as u8)),
+        1 => bytes.extend((0..rng.between(1, 3)).map(|_| rng.draw() as u8)),
         2 => {
             let places = mark_places(&bytes);
             let at = rng.pick(&places) + rng.below(6) as usize;

@@ -89,6 +89,7 @@ fn agreed_jobs_are_in_the_domain_and_of_all_kinds() {
         }
     }
     use FateKind::{Covered, Empty, NotRetained, Refused, TooLong, WrittenAt};
-    let all = [NotRetained, Empty, TooLong, Covered, WrittenAt(0), Refused(6), Refused(7), Refused(8), Refused(9)];
+    let all =
+        [NotRetained, Empty, TooLong, Covered, WrittenAt(0), Refused(6), Refused(7), Refused(8), Refused(9)];
     assert_eq!(kinds.into_iter().collect::<Vec<_>>(), all);
 }

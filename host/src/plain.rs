@@ -261,10 +261,20 @@ struct Group {
 
 /// A readable subtable.
 enum Subtable<'a> {
-    Four { language: u32, segments: Vec<Segment>, array: Vec<u16> },
-    Twelve { language: u32, groups: Vec<Group> },
+    Four {
+        language: u32,
+        segments: Vec<Segment>,
+        array: Vec<u16>,
+    },
+    Twelve {
+        language: u32,
+        groups: Vec<Group>,
+    },
     /// The whole subtable up to its length, and the number of selector records.
-    Fourteen { bytes: &'a [u8], selectors: u64 },
+    Fourteen {
+        bytes: &'a [u8],
+        selectors: u64,
+    },
 }
 
 /// The readable subtable at an offset, if there is one.
@@ -517,8 +527,7 @@ fn as_one(runs: &[Run]) -> Cut {
 
 /// All segments of some pairs, with the closing one.
 fn cut(pairs: &[Pair]) -> Vec<Cut> {
-    let mut cuts: Vec<Cut> =
-        ranges_of_runs(pairs).iter().flat_map(|runs| cut_range(runs)).collect();
+    let mut cuts: Vec<Cut> = ranges_of_runs(pairs).iter().flat_map(|runs| cut_range(runs)).collect();
     if cuts.last().is_none_or(|last| last.end != 0xFFFF) {
         cuts.push(Cut { start: 0xFFFF, end: 0xFFFF, delta: 1 });
     }
@@ -785,10 +794,7 @@ fn check_retained(sources: &[(Record, Option<Subtable>)]) -> Result<(), u8> {
 type Made = (Option<usize>, Option<usize>, Option<usize>);
 
 /// Takes the records in source order and makes each format's table once; `Err` is refusal 8.
-fn make_tables(
-    lent: &Lent,
-    sources: &[(Record, Option<Subtable>)],
-) -> Result<(Plan, Made), u8> {
+fn make_tables(lent: &Lent, sources: &[(Record, Option<Subtable>)]) -> Result<(Plan, Made), u8> {
     let mut plan = Plan { outcomes: Vec::new(), tables: Vec::new() };
     let (mut four, mut twelve, mut fourteen) = (None, None, None);
     for (k, (record, subtable)) in sources.iter().enumerate() {
@@ -810,12 +816,10 @@ fn make_tables(
             Some(subtable @ Subtable::Twelve { language, .. }) => {
                 plan.make(write_12(*language, &lent.pairs_mapped_by(subtable)), &mut twelve)
             }
-            Some(Subtable::Fourteen { bytes, selectors }) => {
-                match write_14(lent, bytes, *selectors)? {
-                    None => Outcome::Empty,
-                    Some(table) => plan.make(table, &mut fourteen),
-                }
-            }
+            Some(Subtable::Fourteen { bytes, selectors }) => match write_14(lent, bytes, *selectors)? {
+                None => Outcome::Empty,
+                Some(table) => plan.make(table, &mut fourteen),
+            },
         };
         plan.outcomes.push((*record, outcome));
     }
@@ -957,13 +961,8 @@ fn look_up_12(groups: &[Group], c: u32) -> Option<u16> {
 // The job program.
 
 /// The marks of a job's records with the size of an entry and the most entries.
-const JOB_RECORDS: [(&[u8; 2], usize, usize); 5] = [
-    (b"TB", 1, 32_768),
-    (b"PR", 6, 2_048),
-    (b"KP", 4, 4_096),
-    (b"MP", 2, 8_192),
-    (b"RQ", 2, 2_048),
-];
+const JOB_RECORDS: [(&[u8; 2], usize, usize); 5] =
+    [(b"TB", 1, 32_768), (b"PR", 6, 2_048), (b"KP", 4, 4_096), (b"MP", 2, 8_192), (b"RQ", 2, 2_048)];
 /// The room that the program has for a result.
 const JOB_ROOM: usize = 32_768;
 

@@ -68,9 +68,7 @@ fn deltas(table: &[u8]) -> Vec<u16> {
     table[16 + 4 * s..16 + 6 * s].chunks(2).map(|b| u16::from_be_bytes([b[0], b[1]])).collect()
 }
 
-const C1: [u16; 16] = [
-    4, 0x20, 0, 4, 4, 1, 0, 0x41, 0xFFFF, 0, 0x41, 0xFFFF, 0xFFC0, 1, 0, 0,
-];
+const C1: [u16; 16] = [4, 0x20, 0, 4, 4, 1, 0, 0x41, 0xFFFF, 0, 0x41, 0xFFFF, 0xFFC0, 1, 0, 0];
 
 fn c1() -> Vec<u8> {
     C1.iter().flat_map(|n| n.to_be_bytes()).collect()
@@ -134,11 +132,17 @@ fn whole_output_rooms_and_fates() {
 
 #[test]
 fn refusals_come_in_order() {
-    let number = |source: &[u8], codes: &[u32], kept: &[u32], map: &[u16], requested: &[u16]| {
-        match subset(source, codes, &vec![1; codes.len()], kept, map, requested, 0) {
-            Answer::Refused(number) => number,
-            other => panic!("{other:?}"),
-        }
+    let number = |source: &[u8], codes: &[u32], kept: &[u32], map: &[u16], requested: &[u16]| match subset(
+        source,
+        codes,
+        &vec![1; codes.len()],
+        kept,
+        map,
+        requested,
+        0,
+    ) {
+        Answer::Refused(number) => number,
+        other => panic!("{other:?}"),
     };
     assert_eq!(number(&[], &[2, 1], &[], &[], &[9]), 1);
     assert_eq!(number(&[], &[2, 1], &[3, 1], &[0], &[9]), 2);
