@@ -234,6 +234,11 @@ fn damaged() -> Vec<(&'static str, Job)> {
         ("source of 3 bytes", Job { source: vec![0, 0, 0], ..job(&[(0, 3, c1())], &[A], &[], 2) }),
         ("length field of format 4 too short", with(job(&[(0, 3, c1())], &[A], &[], 2), 14, &[0, 31])),
         ("length field of format 4 past the end", with(job(&[(0, 3, c1())], &[A], &[], 2), 14, &[0, 33])),
+        ("odd range offset 5, halved downwards", {
+            let mut j = with_12(array(0));
+            j.source[20 + 28..20 + 30].copy_from_slice(&[0, 5]);
+            j
+        }),
         ("array index partly outside", with_12(array(1))),
         ("array index wholly outside", with_12(array(2))),
         (

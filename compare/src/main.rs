@@ -307,13 +307,14 @@ fn against_program_of(s: &dyn Subsetter, case: &Case, job: &Job) -> Option<Strin
 
 /// Prints the smallest form of a difference.
 fn smallest(s: &dyn Subsetter, published: &Published, model: &Model) {
-    let difference = |m: &Model| {
-        let job = m.to_job();
-        against_published(&s.subset(&job, usize::MAX), &published.ask(std::slice::from_ref(&job))[0])
+    let differences = |models: &[Model]| -> Vec<Option<String>> {
+        let jobs: Vec<Job> = models.iter().map(Model::to_job).collect();
+        let replies = published.ask(&jobs);
+        jobs.iter().zip(&replies).map(|(j, r)| against_published(&s.subset(j, usize::MAX), r)).collect()
     };
-    let small = shrink(model, &|m| difference(m).is_some());
+    let small = shrink(model, &|models| differences(models).iter().position(Option::is_some));
     println!("  smallest: {small:?}");
-    println!("  {}", difference(&small).unwrap_or_default());
+    println!("  {}", differences(&[small])[0].clone().unwrap_or_default());
 }
 
 fn run_aimed(arguments: &Arguments) -> bool {

@@ -2,16 +2,21 @@
 use crate::domain::check;
 use crate::model::{Model, Subtable};
 
-/// Cuts parts away for as long as the job stays in the domain and `differs`.
-pub fn shrink(model: &Model, differs: &dyn Fn(&Model) -> bool) -> Model {
+/// The most rounds of cutting.
+const ROUNDS: usize = 300;
+
+/// Cuts parts away for as long as the job stays in the domain and still differs; `differing` tells the first
+/// model of some that does.
+pub fn shrink(model: &Model, differing: &dyn Fn(&[Model]) -> Option<usize>) -> Model {
     let mut small = model.clone();
-    loop {
-        let next = smaller(&small).into_iter().find(|m| check(m).is_ok() && differs(m));
-        match next {
+    for _ in 0..ROUNDS {
+        let candidates: Vec<Model> = smaller(&small).into_iter().filter(|m| check(m).is_ok()).collect();
+        match candidates.chunks(40).find_map(|some| differing(some).map(|k| some[k].clone())) {
             Some(next) => small = next,
-            None => return small,
+            None => break,
         }
     }
+    small
 }
 
 /// The list without one piece, for pieces of falling lengths.

@@ -185,6 +185,20 @@ fn loosen_selector(rng: &mut Rng, selector: &mut Selector) {
     }
 }
 
+/// Puts a number into bytes that are there.
+fn put(bytes: &mut [u8], at: u32, width: usize, n: u32) {
+    for (i, b) in n.to_be_bytes()[4 - width..].iter().enumerate() {
+        if let Some(place) = bytes.get_mut(at as usize + i) {
+            *place = *b;
+        }
+    }
+}
+
+/// The number in some bytes, 0 where they end.
+fn get(bytes: &[u8], at: u32, width: u32) -> u32 {
+    (at..at + width).fold(0, |n, i| n << 8 | bytes.get(i as usize).map_or(0, |&b| u32::from(b)))
+}
+
 /// Changes some bytes of a table.
 fn damage(rng: &mut Rng, bytes: &mut Vec<u8>) {
     let length = bytes.len() as u32;
@@ -192,33 +206,19 @@ fn damage(rng: &mut Rng, bytes: &mut Vec<u8>) {
         bytes.push(rng.draw() as u8);
         return;
     }
-    let put = |bytes: &mut Vec<u8>, at: u32, width: usize, n: u32| {
-        for (i, b) in n.to_be_bytes()[4 - width..].iter().enumerate() {
-            if let Some(place) = bytes.get_mut(at as usize + i) {
-                *place = *b;
-            }
-        }
-    };
     let count = u32::from(bytes[3]).min((length - 4) / 8);
     let record = if count > 0 { 4 + 8 * rng.below(count) } else { 4 };
-    let offset = bytes
-        .get(record as usize + 4..record as usize + 8)
-        .map_or(0, |b| u32::from_be_bytes(b.try_into().expect("four")));
-    match rng.below(12) {
+    let offset = get(bytes, record + 4, 4).min(length);
+    match rng.below(16) {
         0 => bytes[rng.below(length) as usize] ^= 1 << rng.below(8),
         1 => put(bytes, rng.below(length), 2, rng.pick(&ODD)),
         2 => put(bytes, rng.below(length) & !1, 4, rng.pick(&ODD)),
         3 => put(bytes, record + 4, 4, rng.below(length + 4)),
-        4 => put(bytes, record + 4, 4, offset.wrapping_add(rng.below(9)).wrapping_sub(4)),
+        4 => put(bytes, record + 4, 4, (offset + rng.below(9)).saturating_sub(4)),
         5 => put(bytes, record + 4, 4, rng.pick(&[2, 0, 4, u32::MAX, u32::MAX - 15, length, length - 1])),
-        6 => put(bytes, offset.saturating_add(2).min(length), 2, rng.below(length + 8)),
-        7 => put(bytes, offset.saturating_add(4).min(length), 4, rng.below(length + 8)),
+        6 => bytes.truncate(rng.below(length) as usize),
+        7 => bytes.extend((0..rng.below(30)).map(|_| rng.draw() as u8)),
         8 => {
-            put(bytes, offset.saturating_add(6).min(length), 2, rng.pick(&[0, 1, 2, 3, 4, 6, 8, 20, 0xFFFE]))
-        }
-        9 => bytes.truncate(rng.below(length) as usize),
-        10 => bytes.extend((0..rng.below(30)).map(|_| rng.draw() as u8)),
-        _ => {
             let (from, to, size) = (rng.below(length), rng.below(length), rng.between(1, 40));
             for i in 0..size {
                 if from + i < length && to + i < length {
@@ -226,6 +226,50 @@ fn damage(rng: &mut Rng, bytes: &mut Vec<u8>) {
                 }
             }
         }
+        _ => damage_subtable(rng, bytes, offset),
+    }
+}
+
+/// Changes a field of the subtable at an offset that means something in its format.
+fn damage_subtable(rng: &mut Rng, bytes: &mut [u8], offset: u32) {
+    let length = bytes.len() as u32;
+    let near = |rng: &mut Rng, n: u32| match rng.below(4) {
+        0 => rng.pick(&ODD),
+        1 => rng.below(length + 8),
+        _ => n.wrapping_add(rng.below(9)).wrapping_sub(4),
+    };
+    let change = |rng: &mut Rng, bytes: &mut [u8], at: u32, width: u32| {
+        let n = near(rng, get(bytes, offset + at, width));
+        put(bytes, offset + at, width as usize, n);
+    };
+    let part = |rng: &mut Rng, count: u32| rng.below(count.clamp(1, 600));
+    match (get(bytes, offset, 2), rng.below(4)) {
+        (4, 0) => change(rng, bytes, 2, 2),
+        (4, 1) => change(rng, bytes, 6, 2),
+        (4, _) => {
+            let s = get(bytes, offset + 6, 2) / 2;
+            let column = rng.pick(&[14, 16 + 2 * s, 16 + 4 * s, 16 + 6 * s, 16 + 6 * s]);
+            let at = column + 2 * part(rng, s);
+            change(rng, bytes, at, 2);
+        }
+        (12, 0) => change(rng, bytes, 4, 4),
+        (12, 1) => change(rng, bytes, 12, 4),
+        (12, _) => {
+            let at = 16 + 12 * part(rng, get(bytes, offset + 12, 4)) + rng.pick(&[0, 4, 8]);
+            change(rng, bytes, at, 4);
+        }
+        (14, 0) => change(rng, bytes, 2, 4),
+        (14, 1) => change(rng, bytes, 6, 4),
+        (14, _) => {
+            let at = 10 + 11 * part(rng, get(bytes, offset + 6, 4)) + rng.pick(&[3, 7]);
+            if rng.once_in(3) {
+                let table = get(bytes, offset + at, 4).min(length);
+                change(rng, bytes, table, 4);
+            } else {
+                change(rng, bytes, at, 4);
+            }
+        }
+        _ => put(bytes, offset, 2, rng.pick(&[4, 12, 14])),
     }
 }
 
