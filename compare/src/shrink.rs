@@ -1,6 +1,7 @@
 //! The smallest form of a job that still shows a difference.
 use crate::domain::check;
 use crate::model::{Model, Subtable};
+use std::ops::Range;
 
 /// The most rounds of cutting.
 const ROUNDS: usize = 300;
@@ -10,8 +11,12 @@ const ROUNDS: usize = 300;
 pub fn shrink(model: &Model, differing: &dyn Fn(&[Model]) -> Option<usize>) -> Model {
     let mut small = model.clone();
     for _ in 0..ROUNDS {
-        let candidates: Vec<Model> = smaller(&small).into_iter().filter(|m| check(m).is_ok()).collect();
-        match candidates.chunks(40).find_map(|some| differing(some).map(|k| some[k].clone())) {
+        let next = cuts(&small).chunks(40).find_map(|cuts| {
+            let mut some: Vec<Model> = cuts.iter().map(|cut| cut.of(&small)).collect();
+            some.retain(|m| *m != small && check(m).is_ok());
+            differing(&some).map(|k| some.swap_remove(k))
+        });
+        match next {
             Some(next) => small = next,
             None => break,
         }
@@ -19,86 +24,98 @@ pub fn shrink(model: &Model, differing: &dyn Fn(&[Model]) -> Option<usize>) -> M
     small
 }
 
-/// The list without one piece, for pieces of falling lengths.
-fn without_pieces<T: Clone>(list: &[T]) -> Vec<Vec<T>> {
-    let (mut lists, mut piece) = (Vec::new(), list.len());
-    while piece > 0 {
-        for at in (0..list.len()).step_by(piece) {
-            let rest = &list[(at + piece).min(list.len())..];
-            lists.push([&list[..at], rest].concat());
-        }
-        piece = if lists.len() > 200 { 0 } else { piece / 2 };
-    }
-    lists
+/// A part that can be taken away.
+enum Cut {
+    Records(Range<usize>),
+    /// Pairs, from the kept points too.
+    Pairs(Range<usize>),
+    /// Pairs, whose points stay kept.
+    Listed(Range<usize>),
+    Kept(Range<usize>),
+    Requested,
+    Glyphs(usize),
+    /// Segments, groups or selectors of a subtable.
+    Parts(usize, Range<usize>),
+    /// Ranges of a selector of a subtable.
+    Ranges(usize, usize, Range<usize>),
+    /// Mappings of a selector of a subtable.
+    Mappings(usize, usize, Range<usize>),
 }
 
-/// Models with one part less.
-fn smaller(model: &Model) -> Vec<Model> {
-    let mut list = Vec::new();
-    let mut push = |change: &dyn Fn(&mut Model)| {
-        let mut next = model.clone();
-        change(&mut next);
-        next.settle();
-        if next != *model {
-            list.push(next);
-        }
-    };
-    for records in without_pieces(&model.records) {
-        push(&|m| m.records = records.clone());
+/// The pieces of a list of some length: the whole, halves, and so on, not too many.
+fn pieces(length: usize) -> Vec<Range<usize>> {
+    let (mut list, mut piece) = (Vec::new(), length);
+    while piece > 0 && list.len() < 200 {
+        list.extend((0..length).step_by(piece).map(|at| at..(at + piece).min(length)));
+        piece /= 2;
     }
-    for pairs in without_pieces(&model.pairs) {
-        push(&|m| {
-            m.pairs = pairs.clone();
-            m.kept.retain(|c| model.pairs.iter().all(|p| p.0 != *c));
-        });
-        push(&|m| m.pairs = pairs.clone());
-    }
-    for kept in without_pieces(&model.kept) {
-        push(&|m| m.kept = kept.clone());
-    }
-    push(&|m| m.requested.clear());
-    for n in [1, 2, 10, model.map.len() / 2, model.map.len().saturating_sub(1)] {
-        push(&|m| {
-            m.map.truncate(n.max(1));
-            m.requested.retain(|&g| usize::from(g) < n.max(1));
-        });
-    }
+    list
+}
+
+/// Every cut of a model.
+fn cuts(model: &Model) -> Vec<Cut> {
+    let mut list: Vec<Cut> = pieces(model.records.len()).into_iter().map(Cut::Records).collect();
+    list.extend(pieces(model.pairs.len()).into_iter().map(Cut::Pairs));
+    list.extend(pieces(model.pairs.len()).into_iter().map(Cut::Listed));
+    list.extend(pieces(model.kept.len()).into_iter().map(Cut::Kept));
+    list.push(Cut::Requested);
+    let n = model.map.len();
+    list.extend([1, 2, 10, n / 2, n.saturating_sub(1)].map(|n| Cut::Glyphs(n.max(1))));
     for (i, subtable) in model.subtables.iter().enumerate() {
-        for other in smaller_subtables(subtable) {
-            push(&|m| m.subtables[i] = other.clone());
+        let parts = match subtable {
+            Subtable::Four { segments, .. } => segments.len(),
+            Subtable::Twelve { groups, .. } => groups.len(),
+            Subtable::Fourteen { selectors } => selectors.len(),
+            Subtable::Raw(_) => 0,
+        };
+        list.extend(pieces(parts).into_iter().map(|piece| Cut::Parts(i, piece)));
+        if let Subtable::Fourteen { selectors } = subtable {
+            for (j, selector) in selectors.iter().enumerate() {
+                let count = selector.ranges.as_ref().map_or(0, Vec::len);
+                list.extend(pieces(count).into_iter().map(|piece| Cut::Ranges(i, j, piece)));
+                let count = selector.mappings.as_ref().map_or(0, Vec::len);
+                list.extend(pieces(count).into_iter().map(|piece| Cut::Mappings(i, j, piece)));
+            }
         }
     }
     list
 }
 
-fn smaller_subtables(subtable: &Subtable) -> Vec<Subtable> {
-    match subtable {
-        Subtable::Four { language, segments, array } => without_pieces(segments)
-            .into_iter()
-            .map(|segments| Subtable::Four { language: *language, segments, array: array.clone() })
-            .collect(),
-        Subtable::Twelve { language, groups } => without_pieces(groups)
-            .into_iter()
-            .map(|groups| Subtable::Twelve { language: *language, groups })
-            .collect(),
-        Subtable::Fourteen { selectors } => {
-            let mut list: Vec<_> = without_pieces(selectors);
-            for (i, selector) in selectors.iter().enumerate() {
-                let ranges = selector.ranges.iter().flat_map(|r| without_pieces(r));
-                let mappings = selector.mappings.iter().flat_map(|m| without_pieces(m));
-                list.extend(ranges.map(|ranges| {
-                    let mut next = selectors.clone();
-                    next[i].ranges = Some(ranges).filter(|r| !r.is_empty());
-                    next
-                }));
-                list.extend(mappings.map(|mappings| {
-                    let mut next = selectors.clone();
-                    next[i].mappings = Some(mappings).filter(|m| !m.is_empty());
-                    next
-                }));
+impl Cut {
+    /// A model without this part.
+    fn of(&self, model: &Model) -> Model {
+        let mut m = model.clone();
+        match self {
+            Self::Records(piece) => drop(m.records.drain(piece.clone())),
+            Self::Pairs(piece) => {
+                let gone: Vec<u32> = m.pairs.drain(piece.clone()).map(|p| p.0).collect();
+                m.kept.retain(|c| gone.binary_search(c).is_err());
             }
-            list.into_iter().map(|selectors| Subtable::Fourteen { selectors }).collect()
+            Self::Listed(piece) => drop(m.pairs.drain(piece.clone())),
+            Self::Kept(piece) => drop(m.kept.drain(piece.clone())),
+            Self::Requested => m.requested.clear(),
+            Self::Glyphs(n) => {
+                m.map.truncate(*n);
+                m.requested.retain(|&g| usize::from(g) < *n);
+            }
+            Self::Parts(i, piece) => match &mut m.subtables[*i] {
+                Subtable::Four { segments, .. } => drop(segments.drain(piece.clone())),
+                Subtable::Twelve { groups, .. } => drop(groups.drain(piece.clone())),
+                Subtable::Fourteen { selectors } => drop(selectors.drain(piece.clone())),
+                Subtable::Raw(_) => {}
+            },
+            Self::Ranges(i, j, piece) => {
+                if let Subtable::Fourteen { selectors } = &mut m.subtables[*i] {
+                    selectors[*j].ranges.as_mut().expect("ranges").drain(piece.clone());
+                }
+            }
+            Self::Mappings(i, j, piece) => {
+                if let Subtable::Fourteen { selectors } = &mut m.subtables[*i] {
+                    selectors[*j].mappings.as_mut().expect("mappings").drain(piece.clone());
+                }
+            }
         }
-        Subtable::Raw(_) => vec![],
+        m.settle();
+        m
     }
 }
