@@ -393,13 +393,18 @@ fn twins(rng: &mut Rng) -> Model {
     let mut points = points_4(segments, array);
     match rng.below(6) {
         0 if !points.is_empty() => drop(points.remove(rng.below(points.len() as u32) as usize)),
-        1 => points.push(rng.pick(&[0xFFFF, 0x10000, 0x1F600, LIMIT])),
+        1 => {
+            let extra = rng.pick(&[0xFFFF, 0x10000, 0x1F600, LIMIT]);
+            points.push(extra);
+            model.kept.extend(rng.once_in(2).then_some(extra));
+        }
         _ => {}
     }
     points.sort_unstable();
     points.dedup();
     let language = u32::from(*language) + rng.pick(&[0, 0, 0, 0, 0, 1, 65_536]);
     let twin = Subtable::Twelve { language, groups: groups_of(&points) };
+    let subtable = if rng.once_in(5) { twin.clone() } else { subtable };
     let pairs = rng.pick(&[[(0, 3), (0, 4)], [(3, 1), (3, 10)], [(0, 3), (3, 10)], [(0, 4), (0, 3)]]);
     let (platform, encoding) = pairs[0];
     if rng.once_in(4) {
