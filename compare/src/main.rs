@@ -221,9 +221,9 @@ fn count_borders(counts: &mut Counts, model: &Model, answer: &Answer) {
     });
     for group in groups.flatten() {
         let last = i64::from(group.glyph) + i64::from(group.end) - i64::from(group.start);
-        match last - model.map.len() as i64 {
-            over @ -1..=1 => counts.add(format!("border: group whose last glyph is n{over:+}")),
-            _ => {}
+        let over = last - model.map.len() as i64;
+        if (-1..=1).contains(&over) {
+            counts.add(format!("border: group whose last glyph is n{over:+}"));
         }
     }
     if let Some(result) = match answer {

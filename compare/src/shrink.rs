@@ -34,6 +34,8 @@ enum Cut {
     Kept(Range<usize>),
     Requested,
     Glyphs(usize),
+    /// A subtable that no record leads to.
+    Unused(usize),
     /// Segments, groups or selectors of a subtable.
     Parts(usize, Range<usize>),
     /// Ranges of a selector of a subtable.
@@ -62,6 +64,9 @@ fn cuts(model: &Model) -> Vec<Cut> {
     let n = model.map.len();
     list.extend([1, 2, 10, n / 2, n.saturating_sub(1)].map(|n| Cut::Glyphs(n.max(1))));
     for (i, subtable) in model.subtables.iter().enumerate() {
+        if model.records.iter().all(|record| record.leads_to != i) {
+            list.push(Cut::Unused(i));
+        }
         let parts = match subtable {
             Subtable::Four { segments, .. } => segments.len(),
             Subtable::Twelve { groups, .. } => groups.len(),
@@ -97,6 +102,10 @@ impl Cut {
             Self::Glyphs(n) => {
                 m.map.truncate(*n);
                 m.requested.retain(|&g| usize::from(g) < *n);
+            }
+            Self::Unused(i) => {
+                m.subtables.remove(*i);
+                m.records.iter_mut().filter(|r| r.leads_to > *i).for_each(|r| r.leads_to -= 1);
             }
             Self::Parts(i, piece) => match &mut m.subtables[*i] {
                 Subtable::Four { segments, .. } => drop(segments.drain(piece.clone())),
