@@ -167,6 +167,42 @@ fn found_besides() -> Vec<(&'static str, Job)> {
             ),
         ),
         (
+            "ranges branch, ranges not in order: FE20, FE00, FE10",
+            job(
+                &[(0, 3, everything()), (0, 5, ranges(0xFE00, &[(0xFE20, 0), (0xFE00, 0), (0xFE10, 0)]))],
+                &[(0xFE00, 1)],
+                &[],
+                2,
+            ),
+        ),
+        (
+            "ranges branch, ranges not in order: FE10, FE20, FE00",
+            job(
+                &[(0, 3, everything()), (0, 5, ranges(0xFE00, &[(0xFE10, 0), (0xFE20, 0), (0xFE00, 0)]))],
+                &[(0xFE00, 1)],
+                &[],
+                2,
+            ),
+        ),
+        (
+            "single points, ranges not in order: 3, 1",
+            job(
+                &[(0, 3, everything()), (0, 5, ranges(0xFE00, &[(3, 0), (1, 0)]))],
+                &[(1, 1), (3, 1)],
+                &[0xFE00],
+                2,
+            ),
+        ),
+        (
+            "mappings not in order: 3, 1, 1",
+            job(
+                &[(0, 3, everything()), (0, 5, mappings(0xFE00, &[(3, 1), (1, 0), (1, 1)]))],
+                &[(1, 1), (3, 1)],
+                &[0xFE00],
+                2,
+            ),
+        ),
+        (
             "sibling of another format (6), nothing kept that the 12 maps",
             job(&[(0, 3, c1()), (3, 1, six()), (3, 10, twelve(&[(0x50, 0x50, 1)]))], &[A], &[], 2),
         ),
