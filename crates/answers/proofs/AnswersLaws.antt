@@ -37,7 +37,7 @@ pub record Reads (format : ℕ) (look : List ℕ → ℕ → ℕ → Found) (j :
   pub gives : (k : ℕ) (xs : List ℕ) (place : ℕ) → isMade (at os k) ≡ true → Stands xs place (tableOf j k) → leadsToFormat format (j .source) k ≡ true
       → (c : ℕ) → glyphOf (look xs place c) ≡ listedGlyph (listedOf j k) c
 
-maker-self : (o : Outcome) (k : ℕ) → isMade o ≡ true → makerOf o k ≡ k
+pub maker-self : (o : Outcome) (k : ℕ) → isMade o ≡ true → makerOf o k ≡ k
 maker-self NotRetained k e = refl
 maker-self Skipped k e = refl
 maker-self Empty k e = refl

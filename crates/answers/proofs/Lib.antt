@@ -2,3 +2,4 @@ pub mod AnswersLaws
 pub mod ReadsLaws
 pub mod JobLaws
 pub mod CaseLaws
+pub mod CallLaws

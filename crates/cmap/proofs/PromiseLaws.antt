@@ -89,6 +89,10 @@ module _ (j : Job) (out : List ℕ) where
     accepted : numberIn j (length out) ≡ 0
     accepted = sym (number-answered j (length out)) ∙ ap numberOf w
 
+    -- no refusal held
+    pub written-passed : refusalOf j ≡ 0
+    written-passed = accepted-passed j (length out) accepted
+
     pub written-length : n ≡ length (result j)
     unfolding answerOf
     written-length =

@@ -116,6 +116,10 @@ module _ (j : Job) (bytes : Bytes (j .source)) (accepted : refusalOf j ≡ 0) wh
       (λ h. absurd (false-true (rw (plan-past j few k h) at w)))
       (λ h. h)
 
+  -- the fate of a record that is written
+  pub written-fate : (k : ℕ) → isWritten (at (plan j) k) ≡ true → fateOf j k .kind ≡ WrittenAt (offsetOf (plan j) (makerOf (at (plan j) k) k))
+  written-fate k w = ap (λ (r : Fate). r .kind) (fate-is k (inside-count k w)) ∙ written-kind (plan j) (at (plan j) k) k w
+
   back : (k : ℕ) → isWritten (at (plan j) k) ≡ true → ReadsBack j k (offsetOf (plan j) (makerOf (at (plan j) k) k))
   unfolding leadsTo
   back k w =
@@ -164,6 +168,6 @@ module _ (j : Job) (bytes : Bytes (j .source)) (accepted : refusalOf j ≡ 0) wh
       record {
         from = k;
         there = l;
-        fate = ap (λ (r : Fate). r .kind) (fate-is k l) ∙ written-kind os (at os k) k w ∙ ap WrittenAt (sym (e .offset) ∙ ap (λ (n : ℕ). offsetAt (result j) n) (t .before));
+        fate = written-fate k w ∙ ap WrittenAt (sym (e .offset) ∙ ap (λ (n : ℕ). offsetAt (result j) n) (t .before));
         at-place = t .before;
       }

@@ -43,7 +43,7 @@ earlyRefusals j = listRefusals j ++ sourceRefusals (j .source)
 abbrev pub lateRefusals : List ℕ → List Outcome → List Case
 lateRefusals xs os = (8, refused8 os) ∷ (9, refused9 xs os) ∷ []
 
--- all but 10, which asks for the output too
+-- all but 10, which asks for the output too; that a host's work room is long enough, which 1 asks as well, is tested where it is lent
 abbrev pub refusals : Job → List Case
 refusals j = earlyRefusals j ++ lateRefusals (j .source) (plan j)
 
