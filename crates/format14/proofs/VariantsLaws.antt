@@ -27,8 +27,9 @@ use Rattle.number.proofs.BigEndianLaws.{be-lt, be-front, be-back, be-enc-fits, 
 use Rattle.number.proofs.StandsLaws.{be-stands}
 use Rattle.uvs.specs.Tables.{counts, countsNonDefault}
 use Rattle.uvs.specs.NonDefault.{mappings, newNonDefault}
+use Rattle.uvs.proofs.ReadLaws.{each-row, each-select}
 use Rattle.non_default_uvs.specs.Gives.{glyphsFor, stayingGlyphs, newGlyph, Glyphs}
-use Rattle.non_default_uvs.proofs.GivesLaws.{each-row, each-select, none-read, stands-mappings, new-mappings, new-gives, all-stay}
+use Rattle.non_default_uvs.proofs.GivesLaws.{none-read, stands-mappings, new-mappings, new-gives, all-stay}
 use Rattle.selector_tables.specs.Selectors.{Given, selectorRecords, varSelector, nonDefaultOffset, keepsSelector, defaultTable, nonDefaultTable}
 use Rattle.selector_tables.proofs.ShapeLaws.{non-default-shape}
 use Rattle.format14.specs.Format14.{Row, keptRecords, rowOf, rowsOf, rows, used, there, one, tables, written, offsetOf, rowBytes, lengthOf, header, format14}
