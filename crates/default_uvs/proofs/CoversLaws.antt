@@ -167,6 +167,10 @@ none-read : (p : ℕ) → ranges [] p ≡ []
 unfolding each be
 none-read p = refl
 
+pub none-covers : (c : ℕ) → coveredBy [] 0 c ≡ false
+unfolding anyOf
+none-covers c = rw (none-read 0)
+
 back : (ys : List ℕ) (q : ℕ) (rs : List Pair) → Each Fits rs → length rs < 256 ^ 4 → Stands ys q (table rangeBytes rs) → 0 < length (table rangeBytes rs) → ranges ys q ≡ rs
 back ys q rs f l st z = table-back rangeBytes 4 range-size range (λ a. a) Fits read-range ys q rs f l st z ∙ map-same rs
 

@@ -41,6 +41,11 @@ module _ (xs : List ℕ) (p : ℕ) (kept : List ℕ) where
   unfolding newDefault
   length-default = omega (arith, length-table rangeBytes 4 range-size (newRecords xs p kept), length-records xs p kept)
 
+  -- the count tells how long a table is
+  pub default-shape : length kept < 256 ^ 4 → 0 < length (newDefault xs p kept) → length (newDefault xs p kept) ≡ 4 + 4 * be 4 (newDefault xs p kept) 0
+  unfolding newDefault
+  default-shape b z = table-shape rangeBytes 4 range-size (newRecords xs p kept) (omega (arith, length-records xs p kept)) z .0
+
   module _ (map requested : List ℕ) where
     length-mappings : length (keptMappings xs p kept requested) ≤ be 4 xs p
     length-mappings = omega (arith, length-select (keepsMapping kept requested) (mappings xs p), length-each (mappingAt xs p) (be 4 xs p) 0)
@@ -49,7 +54,6 @@ module _ (xs : List ℕ) (p : ℕ) (kept : List ℕ) where
     unfolding newNonDefault
     length-non-default = omega (arith, length-table (mappingBytes map) 5 (mapping-size map) (keptMappings xs p kept requested), length-mappings)
 
-    -- the count tells how long a table is
     pub non-default-shape : be 4 xs p < 256 ^ 4 → 0 < length (newNonDefault xs p kept map requested)
         → length (newNonDefault xs p kept map requested) ≡ 4 + 5 * be 4 (newNonDefault xs p kept map requested) 0
     unfolding newNonDefault
