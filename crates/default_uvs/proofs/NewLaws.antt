@@ -9,12 +9,12 @@ use Rattle.laws.specs.Choice.{pick}
 use Rattle.laws.specs.Lists.{Pair}
 use Rattle.laws.specs.Select.{flat}
 use Rattle.marks.specs.Marks.{flagged}
-use Rattle.number.specs.BigEndian.{be, put, Num}
+use Rattle.number.specs.BigEndian.{be, put}
 use Rattle.uvs.specs.Checksum.{mixed, checksum}
 use Rattle.uvs.specs.Default.{follow, longest, longRanges, singlePoints, inRanges, coveredBy, coveredPoints, rangeBytes, newRecords, newDefault}
 use Rattle.uvs.proofs.ChecksumLaws.{checksum-table}
 use Rattle.uvs.proofs.TablesLaws.{size-none, size-some, write-none, write-head, write-room, write-some}
-use Rattle.default_uvs.specs.Stream.{Lent, Covered, Count, records, mostOf}
+use Rattle.default_uvs.specs.Stream.{Lent, Count, records, mostOf}
 use Rattle.default_uvs.proofs.CoverLaws.{points-covered}
 use Rattle.default_uvs.proofs.StreamLaws.{range-size}
 
@@ -28,24 +28,15 @@ longest-most : (t : Bool) (ps : List ℕ) → longest (pick t 255 0) 0 ps ≡ pi
 longest-most true ps = refl
 longest-most false ps = longest-single ps
 
-pub covered-of : (xs : List ℕ) (p : ℕ) (ks fs₀ fs : List ℕ) → Lent xs p ks fs₀ → fs ≡ sets fs₀ 0 (flagged (coveredBy xs p) ks) → Covered xs p ks fs
-covered-of xs p ks fs₀ fs h e = record { is = rw e (points-covered xs p ks fs₀ (h .beside)) }
-
-records-covered : (xs : List ℕ) (p : ℕ) (ks fs : List ℕ) (most : ℕ) → Covered xs p ks fs → most ≡ mostOf (be 4 xs p) ks → records most ks fs 0 ≡ newRecords xs p ks
-unfolding mostOf
-records-covered xs p ks fs most v m = rw (m, v .is) (longest-most (inRanges (be 4 xs p) ks) (coveredPoints xs p ks))
-
--- the checksum taken from the flags
-pub sum-new : (xs : List ℕ) (p : ℕ) (ks fs : List ℕ) (r most sum : ℕ) → Covered xs p ks fs → Num 4 xs p r → most ≡ mostOf r ks
-    → sum ≡ mixed 0 (flat rangeBytes (records most ks fs 0)) → sum ≡ checksum (newDefault xs p ks)
-unfolding newDefault
-sum-new xs p ks fs r most sum v n m e =
-    e ∙ rw (records-covered xs p ks fs most v (m ∙ ap (λ k. mostOf k ks) (n .is))) (sym (checksum-table rangeBytes (newRecords xs p ks)))
-
 module _ (xs : List ℕ) (p : ℕ) (ks fs₀ fs : List ℕ) (most : ℕ) (h : Lent xs p ks fs₀)
     (m : most ≡ mostOf (be 4 xs p) ks) (e : fs ≡ sets fs₀ 0 (flagged (coveredBy xs p) ks)) where
   pub records-new : records most ks fs 0 ≡ newRecords xs p ks
-  records-new = records-covered xs p ks fs most (covered-of xs p ks fs₀ fs h e) m
+  unfolding mostOf
+  records-new = rw (m, e, points-covered xs p ks fs₀ (h .beside)) (longest-most (inRanges (be 4 xs p) ks) (coveredPoints xs p ks))
+
+  pub sum-new : (sum : ℕ) → sum ≡ mixed 0 (flat rangeBytes (records most ks fs 0)) → sum ≡ checksum (newDefault xs p ks)
+  unfolding newDefault
+  sum-new sum d = d ∙ rw records-new (sym (checksum-table rangeBytes (newRecords xs p ks)))
 
   module _ (k : ℕ) (c : Count most ks fs k) where
     count-new : k ≡ length (newRecords xs p ks)

@@ -7,7 +7,7 @@ use Rattle.laws.specs.Choice.{pick}
 use Rattle.laws.specs.Lists.{Rising, Pair}
 use Rattle.marks.specs.Marks.{kept}
 use Rattle.number.specs.BigEndian.{be}
-use Rattle.uvs.specs.Default.{coveredPoints, inRanges, longest}
+use Rattle.uvs.specs.Default.{inRanges, longest}
 
 -- the flagged points from place i on
 abbrev pub points : List ℕ → List ℕ → ℕ → List ℕ
@@ -28,10 +28,6 @@ pub record Lent (xs : List ℕ) (p : ℕ) (ks fs : List ℕ) : Type 0 where
   pub rises : Rising ks
   pub few : length ks ≤ 131072
   pub beside : length ks ≤ length fs
-
--- the flags are those of the points that the table at p covers
-pub record Covered (xs : List ℕ) (p : ℕ) (ks fs : List ℕ) : Type 0 where
-  pub is : points ks fs 0 ≡ coveredPoints xs p ks
 
 -- a flag for each point, which are few
 pub record Beside (ks fs : List ℕ) : Type 0 where

@@ -9,7 +9,7 @@ ghost use Rattle.marks.specs.Marks.{marked, flagged, Flags};
 ghost use Rattle.number.specs.BigEndian.{be};
 ghost use Rattle.uvs.specs.Checksum.{mixed, checksum};
 ghost use Rattle.uvs.specs.Default.{range, covers, coveredBy, bitLength, rangeBytes, newDefault};
-ghost use Rattle.default_uvs.specs.Stream.{Lent, Covered, Beside, Point, Start, Next, Count, records, mostOf};
+ghost use Rattle.default_uvs.specs.Stream.{Lent, Beside, Point, Start, Next, Count, records, mostOf};
 
 // The least b with r below 2^b.
 fn bit_length(r: u32) -> u64
@@ -191,28 +191,28 @@ pub fn prepare(flags: &mut [u8], s: &[u8], p: usize, kept: &[u32]) -> u32
     most_additional(number::u32_at(s, p), kept)
 }
 
-// How long the new table is: 0 where there is none.
-pub fn default_size(s: &[u8], p: usize, kept: &[u32], flags: &mut [u8]) -> usize
+// How long a new table is, 0 where there is none, and a checksum of its bytes.
+pub struct DefaultMeasure {
+    pub size: usize,
+    pub sum: u32,
+}
+
+pub fn measure_default(s: &[u8], p: usize, kept: &[u32], flags: &mut [u8]) -> DefaultMeasure
     requires { ⌜ Lent (now s) p (now kept) (now flags) ⌝ }
-    ensures { λ r. ⌜ r ≡ length (newDefault (now (s .entry)) p (now (kept .entry))) ⌝ }
+    ensures { λ r. ⌜ r .size ≡ length (newDefault (now (s .entry)) p (now (kept .entry))) ⌝ }
+    ensures { λ r. ⌜ r .sum ≡ checksum (newDefault (now (s .entry)) p (now (kept .entry))) ⌝ }
     ensures { λ _. ⌜ now (flags .exit) ≡ sets (now (flags .entry)) 0 (flagged (coveredBy (now (s .entry)) p) (now (kept .entry))) ⌝ }
 {
     let most = prepare(flags, s, p, kept);
     let n = count_ranges(kept, flags, most);
+    let sum = sum_ranges(kept, flags, most);
     if n == 0 {
-        return 0;
+        return DefaultMeasure { size: 0, sum: sum };
     }
-    4 + 4 * n
-}
-
-// The new table's checksum, from the flags of the points that the table at p covers.
-pub fn default_sum(s: &[u8], p: usize, kept: &[u32], flags: &[u8]) -> u32
-    requires { ⌜ Lent (now s) p (now kept) (now flags) ⌝ }
-    requires { ⌜ Covered (now s) p (now kept) (now flags) ⌝ }
-    ensures { λ r. ⌜ r ≡ checksum (newDefault (now (s .entry)) p (now (kept .entry))) ⌝ }
-{
-    let most = most_additional(number::u32_at(s, p), kept);
-    sum_ranges(kept, flags, most)
+    DefaultMeasure {
+        size: 4 + 4 * n,
+        sum: sum,
+    }
 }
 
 // Writes the new table; nothing where there is none.

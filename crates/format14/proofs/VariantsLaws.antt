@@ -27,8 +27,9 @@ use Rattle.number.proofs.BigEndianLaws.{be-lt, be-front, be-back, be-enc-fits, 
 use Rattle.number.proofs.StandsLaws.{be-stands}
 use Rattle.uvs.specs.Tables.{counts, countsNonDefault}
 use Rattle.uvs.specs.NonDefault.{mappings, newNonDefault}
+use Rattle.uvs.proofs.ReadLaws.{each-row, each-select}
 use Rattle.non_default_uvs.specs.Gives.{glyphsFor, stayingGlyphs, newGlyph, Glyphs}
-use Rattle.non_default_uvs.proofs.GivesLaws.{each-row, each-select, none-read, stands-mappings, new-mappings, new-gives, all-stay}
+use Rattle.non_default_uvs.proofs.GivesLaws.{none-read, stands-mappings, new-mappings, new-gives, all-stay}
 use Rattle.selector_tables.specs.Selectors.{Given, selectorRecords, varSelector, nonDefaultOffset, keepsSelector, defaultTable, nonDefaultTable}
 use Rattle.selector_tables.proofs.ShapeLaws.{non-default-shape}
 use Rattle.format14.specs.Format14.{Row, keptRecords, rowOf, rowsOf, rows, used, there, one, tables, written, offsetOf, rowBytes, lengthOf, header, format14}
@@ -44,11 +45,11 @@ unfolding flat
 flat-append w [] ys = refl
 flat-append w (x ∷ xs) ys = rw (flat-append w xs ys) (sym (append-assoc (w x) (flat w xs) (flat w ys)))
 
-among-right : (t : List ℕ) (us vs : List (List ℕ)) → among t vs ≡ true → among t (us ++ vs) ≡ true
+pub among-right : (t : List ℕ) (us vs : List (List ℕ)) → among t vs ≡ true → among t (us ++ vs) ≡ true
 among-right t [] vs e = e
 among-right t (u ∷ us) vs e = among-there t u (us ++ vs) (among-right t us vs e)
 
-take-stands : (xs : List ℕ) (at : ℕ) (t : List ℕ) → take (length t) (drop at xs) ≡ t → 0 < length t → Stands xs at t
+pub take-stands : (xs : List ℕ) (at : ℕ) (t : List ℕ) → take (length t) (drop at xs) ≡ t → 0 < length t → Stands xs at t
 take-stands xs at t e z = record {
   inside = by-leb (at + length t ≤ length xs) (length t) (length (drop at xs))
       (λ h. omega (arith, rw length-drop at h))
@@ -104,7 +105,7 @@ unfolding counts
 counts-none ys at len = refl
 
 module _ (rs : List Row) (ys : List ℕ) (at : ℕ) (st : Stands ys at (format14 rs)) (small : lengthOf rs < 256 ^ 4) where
-  read-count : be 4 ys (at + 6) ≡ length rs
+  pub read-count : be 4 ys (at + 6) ≡ length rs
   unfolding format14
   read-count =
       let n = length rs in
@@ -127,7 +128,7 @@ module _ (rs : List Row) (ys : List ℕ) (at : ℕ) (st : Stands ys at (format14
     abbrev t : List ℕ
     t = r .nonDefaultUVS
 
-    row-here : Stands ys (at + (10 + 11 * length us)) (rowBytes rs r)
+    pub row-here : Stands ys (at + (10 + 11 * length us)) (rowBytes rs r)
     row-here = stands-in at (10 + 11 * length us) st row-stands
 
     among-row : 0 < length t → among t (tables rs) ≡ true
@@ -158,7 +159,7 @@ module _ (rs : List Row) (ys : List ℕ) (at : ℕ) (st : Stands ys at (format14
         (λ h. omega (arith, leads h .inside, length-format14 rs))
         (λ h. rw (offset-none (omega arith)) (omega arith))
 
-    read-selector : r .selector < 256 ^ 3 → be 3 ys (at + 10 + 11 * length us) ≡ r .selector
+    pub read-selector : r .selector < 256 ^ 3 → be 3 ys (at + 10 + 11 * length us) ≡ r .selector
     read-selector f =
         let three = length-enc 3 (r .selector) in
         let first = enc 4 (offsetOf rs (r .defaultUVS)) ++ enc 4 (offsetOf rs t) in
@@ -214,7 +215,7 @@ module _ (g : Given) (v c : ℕ) where
   abbrev inRows : List Row → List ℕ
   inRows rs = flat (λ r. glyphsFor (mappings (r .nonDefaultUVS) 0) c) (select (λ r. eqb (r .selector) v) rs)
 
-  apart : (k : ℕ) → (keepsSelector g k ≡ holds (g .kept) v → ⊥) → chosen k ≡ false
+  pub apart : (k : ℕ) → (keepsSelector g k ≡ holds (g .kept) v → ⊥) → chosen k ≡ false
   unfolding keepsSelector
   apart k n = by-test (chosen k ≡ false) (chosen k) (λ e. absurd (n (ap (holds (g .kept)) (eqb-true (varSelector g k) v e)))) (λ e. e)
 

@@ -20,6 +20,7 @@ use Rattle.laws.specs.Search.{some}
 use Rattle.laws.proofs.SelectLaws.{any-select, Counting, counting-end, Copying, copying-start, copying-room, copying-yes, copying-no, copying-end}
 use Rattle.laws.proofs.SearchLaws.{Asking, asking-yes, asking-no}
 use Rattle.uvs.specs.Checksum.{mixed, checksum}
+use Rattle.uvs.proofs.TablesLaws.{size-none, size-some}
 use Rattle.uvs.proofs.ChecksumLaws.{mix-both, checksum-table, Summing, summing-end}
 use Rattle.uvs.specs.NonDefault.{mapping, mappingAt, mappingBytes, keepsMapping, keptMappings, newNonDefault, missing, badMapping}
 use Rattle.non_default_uvs.specs.Lent.{Count, New, badAt}
@@ -86,11 +87,26 @@ count-all xs p kept requested m i k n l h = record {
   below = omega (arith, l .few, l .within, n .below);
 }
 
--- ---- mixed into a checksum
+-- ---- measured: length and checksum
+
+pub mapping-size : (map : List ℕ) (m : Pair) → length (mappingBytes map m) ≡ 5
+mapping-size map m = rw (length-append, length-enc 3 (m .0), length-enc 2 (getD map (m .1) absent))
 
 pub mix-is : (xs : List ℕ) (place : ℕ) (map : List ℕ) (sum c g n q r : ℕ) → Num 3 xs place c → Num 2 xs (place + 3) g → New map g n
     → q ≡ mixed sum (enc 3 c) → r ≡ mixed q (enc 2 n) → r ≡ mixed sum (mappingBytes map (mapping xs place))
 mix-is xs place map sum c g n q r hc hg hn e d = rw (← hc .is, ← hg .is, ← hn .is) (mix-both sum (enc 3 c) (enc 2 n) q r e d)
+
+-- the length from the count
+module _ (xs : List ℕ) (p : ℕ) (kept map requested : List ℕ) (m i k : ℕ) (n : Num 4 xs p m) (l : Counting (keepsMapping kept requested) (mappingAt xs p) m i k) (h : m ≤ i) where
+  pub length-none : k ≡ 0 → 0 ≡ length (newNonDefault xs p kept map requested)
+  unfolding newNonDefault
+  length-none z = size-none (mappingBytes map) (keptMappings xs p kept requested) k (count-all xs p kept requested m i k n l h .is) z
+
+  pub length-some : (k ≡ 0 → ⊥) → 4 + 5 * k ≡ length (newNonDefault xs p kept map requested)
+  unfolding newNonDefault
+  length-some z = size-some (mappingBytes map) (keptMappings xs p kept requested) k (count-all xs p kept requested m i k n l h .is) 5 (mapping-size map) z
+
+pub ruleset lengths = (length-none, length-some)
 
 pub sum-all : (xs : List ℕ) (p : ℕ) (kept map requested : List ℕ) (m i sum : ℕ) → Num 4 xs p m → Summing (mappingBytes map) (keepsMapping kept requested) (mappingAt xs p) m i sum → m ≤ i
     → sum ≡ checksum (newNonDefault xs p kept map requested)
@@ -107,9 +123,6 @@ pub copy-is : (xs : List ℕ) (place : ℕ) (map out mid fin : List ℕ) (to c g
 unfolding put
 copy-is xs place map out mid fin to c g n hc hg hn e d =
     rw (d, e, ← hc .is, ← hg .is, ← hn .is) (put-after 2 out to (enc 3 c) n (to + 3) (rw (length-enc 3 c)))
-
-pub mapping-size : (map : List ℕ) (m : Pair) → length (mappingBytes map m) ≡ 5
-mapping-size map m = rw (length-append, length-enc 3 (m .0), length-enc 2 (getD map (m .1) absent))
 
 -- ---- all that stay, written one after the other
 

@@ -87,23 +87,44 @@ fn mix_mapping(sum: u32, s: &[u8], place: usize, map: &[u16]) -> u32
     uvs::mix_u16(uvs::mix_u24(sum, c), new)
 }
 
-// The new table's checksum: of every mapping that stays, in the source's order.
-pub fn non_default_sum(s: &[u8], p: usize, kept: &[u32], map: &[u16], requested: &[u16]) -> u32
+// How long a new table is, 0 where there is none, and a checksum of its bytes.
+pub struct NonDefaultMeasure {
+    pub size: usize,
+    pub sum: u32,
+}
+
+// Both in one walk of the source's mappings.
+pub fn measure_non_default(
+    s: &[u8],
+    p: usize,
+    kept: &[u32],
+    map: &[u16],
+    requested: &[u16],
+) -> NonDefaultMeasure
     requires { ⌜ Table (now s) p (now kept) (now requested) ⌝ }
-    ensures { λ r. ⌜ r ≡ checksum (newNonDefault (now (s .entry)) p (now (kept .entry)) (now (map .entry)) (now (requested .entry))) ⌝ }
+    ensures { λ r. ⌜ r .size ≡ length (newNonDefault (now (s .entry)) p (now (kept .entry)) (now (map .entry)) (now (requested .entry))) ⌝ }
+    ensures { λ r. ⌜ r .sum ≡ checksum (newNonDefault (now (s .entry)) p (now (kept .entry)) (now (map .entry)) (now (requested .entry))) ⌝ }
 {
     let m = number::u32_at(s, p) as usize;
     let mut i = 0;
+    let mut n = 0;
     let mut sum = 0;
     while i < m {
         let from = p + 4 + 5 * i;
         let stays = keeps_mapping(s, from, kept, requested);
         i += 1;
         if stays {
+            n += 1;
             sum = mix_mapping(sum, s, from, map);
         }
     }
-    sum
+    if n == 0 {
+        return NonDefaultMeasure { size: 0, sum: sum };
+    }
+    NonDefaultMeasure {
+        size: 4 + 5 * n,
+        sum: sum,
+    }
 }
 
 // Writes a mapping's code point and new glyph.
@@ -144,18 +165,6 @@ fn copy_mappings(
             place += 5;
         }
     }
-}
-
-// How long the new table is: 0 where there is none.
-pub fn non_default_size(s: &[u8], p: usize, kept: &[u32], map: &[u16], requested: &[u16]) -> usize
-    requires { ⌜ Table (now s) p (now kept) (now requested) ⌝ }
-    ensures { λ r. ⌜ r ≡ length (newNonDefault (now (s .entry)) p (now (kept .entry)) (now (map .entry)) (now (requested .entry))) ⌝ }
-{
-    let n = count_mappings(s, p, kept, requested);
-    if n == 0 {
-        return 0;
-    }
-    4 + 5 * n
 }
 
 // Writes the new table; nothing where there is none.

@@ -6,22 +6,21 @@ use mathlib.Core.Bool.{Bool, true, false}
 use native.Mathlib.Omega.{arith}
 use lib.Dec.{eqb, ltb, leb}
 use lib.ListN.{length}
-use lib.Seq.{sets, length-sets}
+use lib.Seq.{sets}
 use borrow.Author.Tests.{eq-eqb, ne-eqb, eqb-true, eqb-false, ltb-true, leb-true}
 use Rattle.laws.specs.Choice.{both}
 use Rattle.laws.specs.Select.{eqList}
 use Rattle.laws.proofs.ChoiceLaws.{both-left, both-right, by-leb, by-test}
 use Rattle.laws.proofs.EqListLaws.{eq-refl, eq-true}
 use Rattle.laws.proofs.EitherLaws.{both-none}
-use Rattle.marks.specs.Marks.{holds, flagged}
+use Rattle.marks.specs.Marks.{holds}
 use Rattle.number.specs.BigEndian.{be, Num}
 use Rattle.uvs.specs.Tables.{counts, countsDefault, countsNonDefault}
 use Rattle.uvs.specs.Checksum.{mixed, checksum}
-use Rattle.uvs.specs.Default.{coveredBy, newDefault}
+use Rattle.uvs.specs.Default.{newDefault}
 use Rattle.uvs.specs.NonDefault.{newNonDefault, badMapping}
 use Rattle.uvs.proofs.TablesLaws.{counts-head, counts-inside}
-use Rattle.default_uvs.specs.Stream.{Lent, Covered}
-use Rattle.default_uvs.proofs.NewLaws.{covered-of}
+use Rattle.default_uvs.specs.Stream.{Lent}
 use Rattle.non_default_uvs.specs.Lent.{Table}
 use Rattle.selector_tables.proofs.ShapeLaws.{length-default, length-non-default, tables-apart}
 use Rattle.selector_tables.specs.Selectors.{Given, given, keepsSelector, defaultTable, nonDefaultTable, badRecord, badKept}
@@ -167,16 +166,6 @@ module _ (xs : List ℕ) (at len : ℕ) (kept requested : List ℕ) (t off : ℕ
         let c : counts 4 xs at len off ≡ true = rw e at (here .counted) in
         record { head = counts-head 4 xs at len off (r .inside) c; inside = counts-inside 4 xs at len off (r .inside) c; rises = r .kept-rises; few = r .kept-few; beside = n .beside }
 
-    -- the flags that a walk of the table leaves
-    module _ (flags after : List ℕ) (n : Numbered xs at kept flags t) (e : t % 2 ≡ 0) (d : after ≡ sets flags 0 (flagged (coveredBy xs (at + off)) kept)) where
-      pub lent-again : Lent xs (at + off) kept after
-      lent-again =
-          let l = lent-default flags n e in
-          record { head = l .head; inside = l .inside; rises = l .rises; few = l .few; beside = rw (d, length-sets) (l .beside) }
-
-      pub lent-covered : Covered xs (at + off) kept after
-      lent-covered = covered-of xs (at + off) kept flags after (lent-default flags n e) d
-
     pub lent-non-default : (t % 2 ≡ 0 → ⊥) → Table xs (at + off) kept requested
     lent-non-default h =
         let e = odd-one h in
@@ -232,7 +221,7 @@ module _ (xs : List ℕ) (at len : ℕ) (kept requested : List ℕ) (t off : ℕ
       pub copy-non-default : (off ≡ 0 → ⊥) → (t % 2 ≡ 0 → ⊥) → (fin : List ℕ) → fin ≡ sets out to (newNonDefault xs (at + off) kept map requested) → fin ≡ sets out to (slot g t)
       copy-non-default z e fin d = rw (non-default-is z e) d
 
-pub ruleset lents = (lent-default, lent-again, lent-covered, lent-non-default)
+pub ruleset lents = (lent-default, lent-non-default)
 
 pub ruleset sizes = (size-none, size-default, size-non-default)
 

@@ -1,19 +1,18 @@
 -- How long a new table can be, and why a default table never equals a non-default one.
-use Prim.Native.Nat.{ℕ, zero, suc, _+_, _*_, _^_, _<_, _≤_}
+use Prim.Native.Nat.{ℕ, _+_, _*_, _^_, _<_, _≤_}
 use mathlib.Core.Path.{_≡_, _∙_}
 use mathlib.Core.List.{List, [], _∷_, _++_, map}
 use native.Mathlib.Omega.{arith}
 use lib.ListN.{length, length-append}
 use Rattle.laws.specs.Select.{flat}
-use Rattle.laws.specs.Lists.{Pair}
-use Rattle.laws.proofs.ChoiceLaws.{by-pick}
-use Rattle.laws.proofs.LengthLaws.{length-each, length-map, length-select}
+use Rattle.laws.proofs.LengthLaws.{length-each, length-select}
 use Rattle.laws.proofs.SelectLaws.{length-flat}
 use Rattle.number.specs.BigEndian.{be, enc}
 use Rattle.number.proofs.BigEndianLaws.{length-enc, be-front, be-enc-fits}
 use Rattle.uvs.specs.Tables.{table}
-use Rattle.uvs.specs.Default.{newDefault, newRecords, longest, follow, singlePoints, rangeBytes, coveredPoints, coveredBy, inRanges, longRanges}
+use Rattle.uvs.specs.Default.{newDefault, newRecords, rangeBytes}
 use Rattle.uvs.specs.NonDefault.{newNonDefault, keptMappings, keepsMapping, mappings, mappingAt, mappingBytes}
+use Rattle.default_uvs.proofs.CoversLaws.{length-records}
 use Rattle.default_uvs.proofs.StreamLaws.{range-size}
 use Rattle.non_default_uvs.proofs.MappingLaws.{mapping-size}
 
@@ -37,24 +36,15 @@ module _ {A : Type 0} (w : A → List ℕ) (size : ℕ) (h : (x : A) → length 
 
 -- ---- default and non-default
 
-length-longest : (most : ℕ) (done : ℕ) (ps : List ℕ) → length (longest most done ps) ≤ length ps
-unfolding longest
-length-longest most done [] = omega arith
-length-longest most zero (p ∷ ps) = omega (arith, length-longest most (follow most p ps) ps)
-length-longest most (suc done) (p ∷ ps) = omega (arith, length-longest most done ps)
-
 module _ (xs : List ℕ) (p : ℕ) (kept : List ℕ) where
-  length-records : length (newRecords xs p kept) ≤ length kept
-  length-records =
-      let points = coveredPoints xs p kept in
-      let few = length-select (coveredBy xs p) kept in
-      by-pick (λ (r : List Pair). length r ≤ length kept) (inRanges (be 4 xs p) kept) (longRanges points) (singlePoints points)
-      (λ e. omega (arith, length-longest 255 0 points))
-      (λ e. rw (length-map {B = Pair} (λ (q : ℕ). (q, 0)) points) few)
-
   pub length-default : length (newDefault xs p kept) ≤ 4 + 4 * length kept
   unfolding newDefault
-  length-default = omega (arith, length-table rangeBytes 4 range-size (newRecords xs p kept), length-records)
+  length-default = omega (arith, length-table rangeBytes 4 range-size (newRecords xs p kept), length-records xs p kept)
+
+  -- the count tells how long a table is
+  pub default-shape : length kept < 256 ^ 4 → 0 < length (newDefault xs p kept) → length (newDefault xs p kept) ≡ 4 + 4 * be 4 (newDefault xs p kept) 0
+  unfolding newDefault
+  default-shape b z = table-shape rangeBytes 4 range-size (newRecords xs p kept) (omega (arith, length-records xs p kept)) z .0
 
   module _ (map requested : List ℕ) where
     length-mappings : length (keptMappings xs p kept requested) ≤ be 4 xs p
@@ -64,7 +54,6 @@ module _ (xs : List ℕ) (p : ℕ) (kept : List ℕ) where
     unfolding newNonDefault
     length-non-default = omega (arith, length-table (mappingBytes map) 5 (mapping-size map) (keptMappings xs p kept requested), length-mappings)
 
-    -- the count tells how long a table is
     pub non-default-shape : be 4 xs p < 256 ^ 4 → 0 < length (newNonDefault xs p kept map requested)
         → length (newNonDefault xs p kept map requested) ≡ 4 + 5 * be 4 (newNonDefault xs p kept map requested) 0
     unfolding newNonDefault

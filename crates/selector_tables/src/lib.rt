@@ -65,18 +65,16 @@ pub fn measure_table(
     }
     let p = at + off;
     if t % 2 == 0 {
-        let size = default_uvs::default_size(s, p, kept, flags);
-        let sum = default_uvs::default_sum(s, p, kept, flags);
+        let table = default_uvs::measure_default(s, p, kept, flags);
         return TableMeasure {
-            size: size,
-            sum: sum,
+            size: table.size,
+            sum: table.sum,
         };
     }
-    let size = non_default_uvs::non_default_size(s, p, kept, map, requested);
-    let sum = non_default_uvs::non_default_sum(s, p, kept, map, requested);
+    let table = non_default_uvs::measure_non_default(s, p, kept, map, requested);
     TableMeasure {
-        size: size,
-        sum: sum,
+        size: table.size,
+        sum: table.sum,
     }
 }
 

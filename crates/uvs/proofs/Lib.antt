@@ -2,3 +2,4 @@ pub mod TablesLaws
 pub mod DefaultCases
 pub mod NonDefaultCases
 pub mod ChecksumLaws
+pub mod ReadLaws

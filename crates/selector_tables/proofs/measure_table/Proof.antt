@@ -13,11 +13,8 @@ returns c = (search sizes, search sums)
 add-p : tie.Need-add-p
 add-p c = search needs
 
-default-size-requires : tie.Need-default-size-requires
-default-size-requires c κs = search lents
-
-default-sum-requires : tie.Need-default-sum-requires
-default-sum-requires c κs = (search lents, search lents)
+measure-default-requires : tie.Need-measure-default-requires
+measure-default-requires c κs = search lents
 
 same-length : tie.Need-same-length
 same-length c = search needs
@@ -25,11 +22,8 @@ same-length c = search needs
 returns-2 : tie.Need-returns-2
 returns-2 c = (search sizes, search sums)
 
-non-default-size-requires : tie.Need-non-default-size-requires
-non-default-size-requires c κs = search lents
-
-non-default-sum-requires : tie.Need-non-default-sum-requires
-non-default-sum-requires c κs = search lents
+measure-non-default-requires : tie.Need-measure-non-default-requires
+measure-non-default-requires c κs = search lents
 
 returns-3 : tie.Need-returns-3
 returns-3 c = (search sizes, search sums)
@@ -41,10 +35,8 @@ measure-table-spec =
     source-table-requires
     returns
     add-p
-    default-size-requires
-    default-sum-requires
+    measure-default-requires
     same-length
     returns-2
-    non-default-size-requires
-    non-default-sum-requires
+    measure-non-default-requires
     returns-3)

@@ -1,18 +1,19 @@
--- Mappings mixed in and mappings still to come give the whole checksum.
+-- Mappings passed and mappings still to come give the whole count and the whole checksum.
 use borrow.Author.Needs.{needs}
 use Prim.Native.Nat.{_-_}
 use native.Mathlib.Omega.{arith}
 use Rattle.uvs.specs.NonDefault.{mappingAt, mappingBytes, keepsMapping}
 use Rattle.uvs.proofs.ChecksumLaws.{Summing, summing}
-use Rattle.non_default_uvs.proofs.MappingLaws.{sum-all}
-use Rattle.non_default_uvs.proofs.non_default_sum.Statement.{statement}
-use Rattle.non_default_uvs.proofs.non_default_sum.Tie as tie
+use Rattle.laws.proofs.SelectLaws.{Counting, counting}
+use Rattle.non_default_uvs.proofs.MappingLaws.{lengths, sum-all}
+use Rattle.non_default_uvs.proofs.measure_non_default.Statement.{statement}
+use Rattle.non_default_uvs.proofs.measure_non_default.Tie as tie
 
 abbrev Inv-loop : tie.InvT-loop
-Inv-loop s p kept map requested m i₀ sum₀ i sum = Summing (mappingBytes map) (keepsMapping kept requested) (mappingAt s p) m i sum
+Inv-loop s p kept map requested m i₀ n₀ sum₀ i n sum = Counting (keepsMapping kept requested) (mappingAt s p) m i n × Summing (mappingBytes map) (keepsMapping kept requested) (mappingAt s p) m i sum
 
 abbrev μ-loop : tie.MeasureT-loop
-μ-loop s p kept map requested m i₀ sum₀ i sum = m - i
+μ-loop s p kept map requested m i₀ n₀ sum₀ i n sum = m - i
 
 u32-at-requires : tie.Need-u32-at-requires Inv-loop μ-loop
 u32-at-requires c κs = search needs
@@ -21,7 +22,7 @@ cast-m : tie.Need-cast-m Inv-loop μ-loop
 cast-m c = search needs
 
 loop-holds : tie.Need-loop-holds Inv-loop μ-loop
-loop-holds c = search summing
+loop-holds c = (search counting, search summing)
 
 add-from : tie.Need-add-from Inv-loop μ-loop
 add-from c = search needs
@@ -38,6 +39,9 @@ keeps-mapping-requires c κs = search needs
 add-i : tie.Need-add-i Inv-loop μ-loop
 add-i c = search needs
 
+add-n : tie.Need-add-n Inv-loop μ-loop
+add-n c = search needs
+
 mix-mapping-requires : tie.Need-mix-mapping-requires Inv-loop μ-loop
 mix-mapping-requires c κs = search needs
 
@@ -45,19 +49,28 @@ loop-less : tie.Need-loop-less Inv-loop μ-loop
 loop-less c = omega arith
 
 loop-again : tie.Need-loop-again Inv-loop μ-loop
-loop-again c = search summing
+loop-again c = (search counting, search summing)
 
 loop-less-2 : tie.Need-loop-less-2 Inv-loop μ-loop
 loop-less-2 c = omega arith
 
 loop-again-2 : tie.Need-loop-again-2 Inv-loop μ-loop
-loop-again-2 c = search summing
+loop-again-2 c = (search counting, search summing)
 
 returns : tie.Need-returns Inv-loop μ-loop
-returns c = search sum-all
+returns c = (search lengths, search sum-all)
 
-pub non-default-sum-spec : {M : Type 1} → statement M
-non-default-sum-spec =
+mul-t17 : tie.Need-mul-t17 Inv-loop μ-loop
+mul-t17 c = search needs
+
+add-t18 : tie.Need-add-t18 Inv-loop μ-loop
+add-t18 c = search needs
+
+returns-2 : tie.Need-returns-2 Inv-loop μ-loop
+returns-2 c = (search lengths, search sum-all)
+
+pub measure-non-default-spec : {M : Type 1} → statement M
+measure-non-default-spec =
     tie.close
     (tie.spec
     Inv-loop
@@ -70,9 +83,13 @@ non-default-sum-spec =
     add-from-2
     keeps-mapping-requires
     add-i
+    add-n
     mix-mapping-requires
     loop-less
     loop-again
     loop-less-2
     loop-again-2
-    returns)
+    returns
+    mul-t17
+    add-t18
+    returns-2)
