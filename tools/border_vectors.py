@@ -49,6 +49,20 @@ def cmap(*records):
     return u16(0, len(records)) + b"".join(head) + tables
 
 
+def source_of(*records):
+    """The same with the tables in the records' order."""
+    at, head, tables = 4 + 8 * len(records), b"", b""
+    for platform, encoding, table in records:
+        head += u16(platform, encoding) + u32(at + len(tables))
+        tables += table
+    return u16(0, len(records)) + head + tables
+
+
+def shared(first, second, table):
+    """A result of two records, (platform, encoding), with one table."""
+    return u16(0, 2, *first) + u32(20) + u16(*second) + u32(20) + table
+
+
 def format4(segments, language=0):
     """Segments (start, end, delta), and the closing one."""
     segments = segments + [(0xFFFF, 0xFFFF, 1)]
@@ -103,6 +117,11 @@ def room(points, mappings):
     return job(source, [(c, 1) for c in lone], lone + [0xFE00], [7] * 8192), result
 
 
+def lists_a(*records, kept=(0x41,)):
+    """A job that lists U+0041 as glyph 1."""
+    return job(source_of(*records), [(0x41, 1)], kept, [0, 1])
+
+
 def vectors():
     # worked cases that no other vector holds
     yield "c8", twelve([(0x41, 0x44, 1)], [(0x41, 1), (0x42, 2), (0x44, 3)], 5), twelve_ok([(0x41, 0x42, 1), (0x44, 0x44, 3)])
@@ -116,6 +135,21 @@ def vectors():
     table = format4([(0x41, 0x41, 1 - 0x41)], 0x0102)
     yield "language-4", job(cmap((3, 1, table)), [(0x41, 1)], [0x41], [0, 1]), ok(cmap((3, 1, table)))
     yield "language-12", twelve([(0x41, 0x41, 1)], [(0x41, 1)], 2, 0x10005), twelve_ok([(0x41, 0x41, 1)], 0x10005)
+    # a length that is one byte too long for the source, or one too short for the records; the default table would stand at 6
+    yield "format-4-one-byte-past-the-source", lists_a((3, 1, C1[:2] + u16(33) + C1[4:])), no(9)
+    for name, length in ("past-the-source", 22), ("short-of-its-records", 20):
+        fourteen = u16(14) + u32(length, 1) + u24(0xFE00) + u32(6, 0)
+        yield f"format-14-one-byte-{name}", lists_a((3, 1, C1), (0, 5, fourteen), kept=(0x41, 0xFE00)), ok(cmap((3, 1, C1)))
+    # retained, covered, served
+    twelve_a = format12([(0x41, 0x41, 1)])
+    yield "unretained-format-12-alone-is-6", lists_a((0, 6, twelve_a)), no(6)
+    yield "unretained-format-12-is-not-7", lists_a((0, 3, C1), (0, 6, twelve_a)), ok(cmap((0, 3, C1)))
+    mapping = u16(14) + u32(30, 1) + u24(0xFE00) + u32(0, 21, 1) + u24(0x41) + u16(9)
+    yield "7-before-8", lists_a((3, 1, twelve_a), (0, 5, mapping), kept=(0x41, 0xFE00)), no(7)
+    above = format12([(0x10000, 0x10000, 1)])
+    asked = job(source_of((0, 3, above), (0, 4, above)), [(0x10000, 1)], [0x10000], [0, 1])
+    yield "covered-0x10000-is-above", asked, ok(shared((0, 3), (0, 4), above))
+    yield "format-4-at-0-4-is-served-not-covered", lists_a((0, 3, C1), (0, 4, C1)), ok(shared((0, 3), (0, 4), C1))
     # the work buffer
     asked, result = room(4, 11)
     assert len(result) == 32768

@@ -33,6 +33,28 @@ impl Job {
         bytes
     }
 
+    /// The job that the program reads from its bytes, if they are one within its limits.
+    pub fn from_bytes(bytes: &[u8]) -> Option<Self> {
+        let mut rest = bytes;
+        let mut payload = |mark: &[u8], width| {
+            let after = rest.strip_prefix(mark)?;
+            let (length, after) = after.split_first_chunk()?;
+            let payload;
+            (payload, rest) = after.split_at_checked(u32::from_be_bytes(*length) as usize)?;
+            let entries = payload.chunks_exact(width);
+            entries.remainder().is_empty().then_some(entries)
+        };
+        let number = |entry: &[u8]| entry.iter().fold(0, |n, &b| n << 8 | u32::from(b));
+        let source = payload(b"TB", 1)?.map(|entry| entry[0]).collect();
+        let pairs = payload(b"PR", 6)?.map(|entry| (number(&entry[..4]), number(&entry[4..]) as u16));
+        let (codes, glyphs) = pairs.unzip();
+        let kept = payload(b"KP", 4)?.map(number).collect();
+        let map = payload(b"MP", 2)?.map(|entry| number(entry) as u16).collect();
+        let requested = payload(b"RQ", 2)?.map(|entry| number(entry) as u16).collect();
+        let job = Self { source, codes, glyphs, kept, map, requested };
+        (rest.is_empty() && job.within_program_limits()).then_some(job)
+    }
+
     /// Whether the program takes lists of these lengths.
     pub fn within_program_limits(&self) -> bool {
         self.source.len() <= 32_768

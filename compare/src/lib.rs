@@ -4,11 +4,13 @@
 
 pub mod agreed;
 pub mod aimed;
+pub mod case;
 pub mod domain;
 pub mod job;
 pub mod model;
 pub mod published;
 pub mod rng;
+pub mod sample;
 pub mod shrink;
 pub mod subsetter;
 pub mod through;

@@ -2,17 +2,18 @@
 //! compare aimed PROGRAM [--exact]                              a job for each recorded difference
 //! compare wild [--from SEED] [--count N]                       damaged jobs, for every implementation at hand
 //! compare show agreed|wild SEED                                one job's bytes on standard output
+//! compare sample PROGRAM DIRECTORY                             agreed jobs to store, with the crate's answers
 //!
 //! PROGRAM is the crate's program; --exact is given on to it.
-use compare::agreed::{self, Shape};
+use compare::agreed::Shape;
+use compare::case::{case, Case};
 use compare::domain::ranges_branch;
 use compare::model::{Model, Subtable};
 use compare::published::{Published, Reply};
-use compare::rng::Rng;
 use compare::shrink::shrink;
-use compare::subsetter::{Plain, Subsetter};
+use compare::subsetter::{Library, Plain, Subsetter};
 use compare::verdict::{against_itself, against_other, against_program, against_published, told, told_reply};
-use compare::{aimed, job::Job, through, wild};
+use compare::{aimed, job::Job, sample, through, wild};
 use crustedlane::plain::{Answer, FateKind};
 use std::collections::BTreeMap;
 use std::io::Write;
@@ -55,7 +56,7 @@ fn arguments() -> Arguments {
 
 /// The implementations at hand; the first is compared with the crate, each later one with the first.
 fn implementations() -> Vec<Box<dyn Subsetter>> {
-    vec![Box::new(Plain)]
+    vec![Box::new(Library), Box::new(Plain)]
 }
 
 fn published(arguments: &Arguments) -> Published {
@@ -71,87 +72,17 @@ fn main() {
         Some("aimed") => run_aimed(&arguments),
         Some("wild") => run_wild(&arguments),
         Some("show") => show(&arguments),
+        Some("sample") => {
+            let directory = arguments.words.get(2).expect("a directory");
+            sample::write(&published(&arguments), &*implementations()[0], directory.as_ref());
+            false
+        }
         _ => {
-            eprintln!("compare agreed PROGRAM | aimed PROGRAM | wild | show agreed|wild SEED");
+            eprintln!("compare agreed PROGRAM | aimed PROGRAM | wild | show agreed|wild SEED | sample PROGRAM DIRECTORY");
             true
         }
     };
     std::process::exit(failed.into());
-}
-
-/// A job of the agreed domain, or one whose refusal is known and is not for the crate to tell.
-enum Case {
-    Agreed(Shape, Model),
-    /// A source that refusal 5 is for.
-    Short(Job),
-    /// Lists that refusal 1 to 4 is for.
-    Lists(u8, Job),
-}
-
-fn case(seed: u64) -> Case {
-    let (shape, model) = agreed::model(seed);
-    let mut rng = Rng::new(!seed);
-    let mut job = model.to_job();
-    match rng.below(50) {
-        0 => {
-            let header = 4 + 8 * model.records.len() as u32;
-            job.source.truncate(rng.below(header) as usize);
-            Case::Short(job)
-        }
-        1 => {
-            let number = spoil(&mut rng, &mut job);
-            Case::Lists(number, job)
-        }
-        _ => Case::Agreed(shape, model),
-    }
-}
-
-/// Breaks a list of an accepted form and tells the refusal that must follow.
-fn spoil(rng: &mut Rng, job: &mut Job) -> u8 {
-    let last = job.map.len() as u16 - 1;
-    match rng.below(10) {
-        0 => job.map.clear(),
-        1 => job.glyphs.push(1),
-        2 => {
-            let next = job.codes.last().copied().unwrap_or(5);
-            job.codes.extend([next, next]);
-            job.glyphs.extend([1, 1]);
-            return 2;
-        }
-        3 => {
-            job.codes.push(0x110000);
-            job.glyphs.push(1);
-            return 2;
-        }
-        4 if !job.glyphs.is_empty() => {
-            let k = rng.below(job.glyphs.len() as u32) as usize;
-            job.glyphs[k] = 65_535;
-            return 2;
-        }
-        5 if !job.codes.is_empty() => {
-            let c = rng.pick(&job.codes);
-            job.kept.retain(|&k| k != c);
-            return 3;
-        }
-        6 => {
-            let next = job.kept.last().copied().unwrap_or(5);
-            job.kept.extend([next, next]);
-            return 3;
-        }
-        7 => {
-            job.kept.push(0x110000);
-            return 3;
-        }
-        8 => {
-            job.requested = vec![last, last];
-            return 4;
-        }
-        _ => {
-            job.requested = vec![last + 1];
-            return 4;
-        }
-    }
-    1
 }
 
 /// What becomes of an agreed job, for the counts.
@@ -256,6 +187,9 @@ fn run_agreed(arguments: &Arguments) -> bool {
         for (((seed, case), job), reply) in batch.iter().zip(&cases).zip(&jobs).zip(&replies) {
             let answer = s.subset(job, usize::MAX);
             let mut difference = against_itself(s, job, &answer).or_else(|| against_program_of(s, case, job));
+            for other in &implementations[1..] {
+                difference = difference.or_else(|| against_other(s, &**other, job, &[]));
+            }
             match case {
                 Case::Agreed(shape, model) => {
                     counts.add("jobs of the agreed domain, compared with the crate");
@@ -327,6 +261,13 @@ fn run_aimed(arguments: &Arguments) -> bool {
         let verdict = if against_published(&answer, &reply).is_none() { "same" } else { "DIFFERS" };
         println!("{verdict:7} {}", aimed.what);
         println!("        {}: {}", implementations[0].name(), told(&answer));
+        for other in &implementations[1..] {
+            if let Some(difference) =
+                against_other(&*implementations[0], &**other, &aimed.job, &aimed.job.kept)
+            {
+                println!("        {}: {difference}", other.name());
+            }
+        }
         println!("        crate: {}", told_reply(&reply));
     }
     false

@@ -137,7 +137,7 @@ pub fn against_other(a: &dyn Subsetter, b: &dyn Subsetter, job: &Job, points: &[
         Answer::Written { bytes, .. } => bytes.len(),
         _ => 0,
     };
-    for room in [0, needed / 2, needed.saturating_sub(1), needed, needed + 1] {
+    for room in [needed.saturating_sub(1), needed + 1] {
         if a.subset(job, room) != b.subset(job, room) {
             return Some(format!("in a room of {room} bytes"));
         }

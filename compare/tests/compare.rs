@@ -1,6 +1,6 @@
 //! The generators make what they say, and a wrong implementation is found.
 use compare::job::Job;
-use compare::subsetter::{Plain, Subsetter};
+use compare::subsetter::{Library, Plain, Subsetter};
 use compare::verdict::{against_itself, against_other};
 use compare::{agreed, domain, wild};
 use crustedlane::plain::{Answer, Fate, FateKind, Head};
@@ -60,6 +60,18 @@ fn twists_are_found() {
         against_other(&Plain, &Twisted { what: "nothing" }, &wild.job, &wild.points)
     };
     assert_eq!((0..400).filter_map(untwisted).next(), None);
+}
+
+#[test]
+fn the_library_is_as_plain() {
+    for seed in 0..3000 {
+        let wild = wild::wild(seed);
+        assert_eq!(against_other(&Library, &Plain, &wild.job, &wild.points), None, "wild {seed}");
+        assert_eq!(Library.program(&wild.input), Plain.program(&wild.input), "wild {seed}");
+        let job = agreed::model(seed).1.to_job();
+        assert_eq!(against_other(&Library, &Plain, &job, &[]), None, "agreed {seed}");
+        assert_eq!(against_itself(&Library, &job, &Library.subset(&job, usize::MAX)), None, "agreed {seed}");
+    }
 }
 
 #[test]

@@ -1,9 +1,31 @@
 /* A host that cuts docs/01-rules.md's "Whole output" job and asks what the promises say of it. Prints each question that gets another
  * answer, then the count of those. */
+#include <stdalign.h>
+#include <stddef.h>
 #include <stdio.h>
 #include <string.h>
 
 #include "crustedlane.h"
+
+/* the layouts that the library was built with; host/src/boundary.rs asks the same of its structs */
+#define LAYOUT(type, size, align) _Static_assert(sizeof(type) == size && alignof(type) == align, #type)
+#define AT(type, field, offset) _Static_assert(offsetof(type, field) == offset, #type "." #field)
+LAYOUT(crustedlane_pair, 8, 4);
+AT(crustedlane_pair, code, 0);
+AT(crustedlane_pair, glyph, 4);
+LAYOUT(crustedlane_answer, 24, 8);
+AT(crustedlane_answer, number, 0);
+AT(crustedlane_answer, length, 8);
+AT(crustedlane_answer, records, 16);
+LAYOUT(crustedlane_fate, 24, 8);
+AT(crustedlane_fate, number, 0);
+AT(crustedlane_fate, platform, 4);
+AT(crustedlane_fate, encoding, 8);
+AT(crustedlane_fate, kind, 12);
+AT(crustedlane_fate, offset, 16);
+LAYOUT(crustedlane_glyph, 8, 4);
+AT(crustedlane_glyph, number, 0);
+AT(crustedlane_glyph, glyph, 4);
 
 /* one record, (3,1), that leads to case C1: format 4 with 0x41 to glyph 1 */
 static const uint8_t source[44] = {
