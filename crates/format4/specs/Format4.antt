@@ -1,10 +1,11 @@
 -- The bytes of a format 4 subtable for a list of pairs (01, "Format 4").
-use Prim.Native.Nat.{ℕ, zero, suc, _+_, _-_, _*_, _/_, _^_}
+use Prim.Native.Nat.{ℕ, _+_, _-_, _*_, _^_}
 use mathlib.Core.List.{List, [], _∷_, _++_, map}
 use lib.Dec.{eqb, ltb}
 use lib.ListN.{length}
 use Rattle.laws.specs.Choice.{pick}
 use Rattle.laws.specs.Lists.{Pair}
+use Rattle.laws.specs.Search.{first}
 use Rattle.number.specs.Row.{encs}
 use Rattle.ranges.specs.declared.Segment.{Segment}
 use Rattle.ranges.specs.Steps.{entriesOf}
@@ -20,14 +21,9 @@ unfoldable pub offsetsFrom : ℕ → List Segment → List ℕ
 offsetsFrom before [] = []
 offsetsFrom before (x ∷ xs) = pick (eqb (x .delta) 0) (2 * length (x ∷ xs) + 2 * before) 0 ∷ offsetsFrom (before + entriesOf x) xs
 
--- the floor of the binary logarithm of s, where s is at most f
-unfoldable pub logFrom : ℕ → ℕ → ℕ
-logFrom zero s = 0
-logFrom (suc f) s = let more = suc (logFrom f (s / 2)) in pick (ltb s 2) 0 more
-
+-- log2 of s rounded down: the first e such that s is below 2^(e + 1)
 unfoldable pub floorLog2 : ℕ → ℕ
-unfolding logFrom
-floorLog2 s = logFrom s s
+floorLog2 s = first (λ e. ltb s (2 ^ (e + 1))) s 0
 
 -- "Length 16+8s+2·glyphs"
 abbrev pub lengthWith : ℕ → ℕ → ℕ

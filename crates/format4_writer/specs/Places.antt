@@ -17,7 +17,7 @@ use Rattle.format4.specs.Share.{Fed}
 use Rattle.format4_writer.specs.declared.Log.{Log}
 use Rattle.format4_writer.specs.declared.RangeWriter.{RangeWriter}
 
--- the floor of the binary logarithm of s, and its power of two
+-- log2 of s rounded down, and its power of two
 abbrev pub logOf : ℕ → Log
 logOf s = record { e = floorLog2 s; power = 2 ^ floorLog2 s }
 

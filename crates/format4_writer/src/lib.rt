@@ -22,20 +22,18 @@ struct Log {
     power: u32,
 }
 
-// The floor of the binary logarithm of s, and its power of two.
+// log2 of s rounded down, and its power of two.
 fn floor_log2(s: u32) -> Log
     requires { ⌜ (1 ≤ s) × (s < 65536) ⌝ }
     ensures { λ r. ⌜ Logs s r ⌝ }
 {
-    let mut v = s;
     let mut e: u32 = 0;
-    let mut p: u32 = 1;
-    while 1 < v {
-        v = v / 2;
+    let mut power: u32 = 1;
+    while power * 2 <= s {
+        power *= 2;
         e += 1;
-        p *= 2;
     }
-    Log { e: e, power: p }
+    Log { e: e, power: power }
 }
 
 fn put_four(out: &mut [u8], at: usize, a: u32, b: u32, c: u32, d: u32)

@@ -9,7 +9,7 @@ use Rattle.laws.specs.Choice.{pick, both}
 use Rattle.laws.specs.Lists.{Pair}
 use Rattle.laws.specs.Pieces.{pieces, concat}
 use Rattle.ranges.specs.declared.Segment.{Segment}
-use Rattle.ranges.specs.Steps.{deltaOf, seg, closing}
+use Rattle.ranges.specs.Steps.{pairDelta, seg, closing}
 
 -- ---- ranges and runs
 
@@ -28,8 +28,8 @@ abbrev pub runsOf : List Pair → List (List Pair)
 runsOf range = pieces nextGlyph range
 
 -- "2·length is at least" the cost
-abbrev pub reaches : ℕ → List Pair → Bool
-reaches cost run = leb cost (2 * length run)
+abbrev pub reachesCost : ℕ → List Pair → Bool
+reachesCost cost run = leb cost (2 * length run)
 
 -- ---- what a range is cut into
 
@@ -41,7 +41,7 @@ pub record Cut : Type 0 where
 -- "Delta = glyph−code point, mod 65,536": the same for every pair of a run
 abbrev pub runDelta : List Pair → ℕ
 runDelta [] = 0
-runDelta (p ∷ run) = deltaOf (p .0) (p .1)
+runDelta (p ∷ run) = pairDelta (p .0) (p .1)
 
 -- "A lone run gets its delta, anything else 0."
 abbrev pub loneDelta : List (List Pair) → ℕ
@@ -62,7 +62,7 @@ present (run ∷ runs) = true
 -- earlier part (with the previous run's delta if it is that one run, else 0), and the run."
 unfoldable pub commitRun : ℕ → List (List Pair) → List Pair → List Cut
 commitRun cost earlier run =
-    pick (both (present earlier) (both (leb 2 (length run)) (reaches cost run)))
+    pick (both (present earlier) (both (leb 2 (length run)) (reachesCost cost run)))
     (cutOf earlier ∷ cutOf (run ∷ []) ∷ [])
     (cutOf (earlier ++ (run ∷ [])) ∷ [])
 
@@ -73,7 +73,7 @@ unfoldable pub cutRuns : ℕ → List (List Pair) → List (List Pair) → List 
 cutRuns cost earlier [] = []
 cutRuns cost earlier (run ∷ []) = commitRun 8 earlier run
 cutRuns cost earlier (run ∷ next ∷ runs) =
-    pick (reaches cost run)
+    pick (reachesCost cost run)
     (commitRun cost earlier run ++ cutRuns 16 [] (next ∷ runs))
     (cutRuns 16 (earlier ++ (run ∷ [])) (next ∷ runs))
 

@@ -13,8 +13,8 @@ use Rattle.ranges.specs.declared.Absorbed.{Absorbed}
 use Rattle.ranges.specs.declared.Finished.{Finished}
 
 -- "Delta = glyph − code point, mod 65,536"
-abbrev pub deltaOf : ℕ → ℕ → ℕ
-deltaOf c g = (g + 65536 - c) % 65536
+abbrev pub pairDelta : ℕ → ℕ → ℕ
+pairDelta c g = (g + 65536 - c) % 65536
 
 abbrev pub seg : ℕ → ℕ → ℕ → Segment
 seg a e d = record { start = a; end = e; delta = d }
@@ -25,7 +25,7 @@ idle = record { running = false; later = false; start = 0; prev = 0; prevdelta =
 
 -- a range of one code point, its first run
 abbrev pub begun : ℕ → ℕ → RangeState
-begun c g = record { running = true; later = false; start = c; prev = c; prevdelta = 0; run = c; delta = deltaOf c g; end = c; glyph = g }
+begun c g = record { running = true; later = false; start = c; prev = c; prevdelta = 0; run = c; delta = pairDelta c g; end = c; glyph = g }
 
 -- the run goes on with c
 abbrev pub grown : RangeState → ℕ → ℕ → RangeState
@@ -33,7 +33,7 @@ grown s c g = record { running = s .running; later = s .later; start = s .start;
 
 -- the range goes on with a new run at c; what is not committed starts at a
 abbrev pub turned : RangeState → ℕ → ℕ → ℕ → RangeState
-turned s a c g = record { running = true; later = true; start = a; prev = s .run; prevdelta = s .delta; run = c; delta = deltaOf c g; end = c; glyph = g }
+turned s a c g = record { running = true; later = true; start = a; prev = s .run; prevdelta = s .delta; run = c; delta = pairDelta c g; end = c; glyph = g }
 
 -- "8 for the range's first run, 16 for every later one"
 abbrev pub costOf : RangeState → ℕ
@@ -103,9 +103,6 @@ closing false = []
 unfoldable pub cutFrom : RangeState → List Pair → List Segment
 cutFrom s [] = toList (finish s .out) ++ closing (finish s .close)
 cutFrom s (p ∷ ps) = toList (step s (p .0) (p .1) .out) ++ cutFrom (step s (p .0) (p .1) .state) ps
-
-abbrev pub segments : List Pair → List Segment
-segments ps = cutFrom idle ps
 
 -- how many entries of the glyph array a segment has: "Delta 0 means glyph array"
 abbrev pub entriesOf : Segment → ℕ

@@ -1,7 +1,7 @@
 // Cuts a rising list of (code point, glyph) pairs into the segments of a cmap format 4 table, one pair at a time.
 ghost use mathlib.Core.Path.{_≡_};
 ghost use Prim.Native.Nat.{_≤_};
-ghost use Rattle.ranges.specs.Steps.{idle, begun, grown, turned, deltaOf, costOf, pays, commit, step, finish};
+ghost use Rattle.ranges.specs.Steps.{idle, begun, grown, turned, pairDelta, costOf, pays, commit, step, finish};
 
 // Code points start to end. A delta of 0 says that the glyphs stand in the glyph array.
 pub struct Segment {
@@ -47,7 +47,7 @@ pub struct Finished {
 
 // glyph - code point, mod 65,536
 fn delta_of(c: u16, g: u16) -> u16
-    ensures { λ r. ⌜ r ≡ deltaOf c g ⌝ }
+    ensures { λ r. ⌜ r ≡ pairDelta c g ⌝ }
 {
     ((g as u32 + 65536 - c as u32) % 65536) as u16
 }
