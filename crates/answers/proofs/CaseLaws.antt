@@ -19,7 +19,8 @@ use Rattle.checks.proofs.ChecksLaws.{at-most}
 use Rattle.mapped4.specs.Mapped4.{entry4, says4, lastSays, maps4}
 use Rattle.listing.specs.Listing.{maps, listed}
 use Rattle.covering.specs.Covered.{covered, siblingCovers}
-use Rattle.ranges.specs.Cutting.{commitRun, cutRuns, cuts, segments, glyphArray, arrayFrom}
+use Rattle.ranges.specs.Cutting.{commitRun, cutRuns, cuts, segments, glyphArray}
+use Rattle.ranges.specs.Steps.{arrayFrom}
 use Rattle.format4.specs.Format4.{offsetsFrom, floorLog2, header, format4}
 use Rattle.format4.specs.Size.{sizeOf}
 use Rattle.plan.specs.declared.Outcome.the-variants.{NotRetained, Made}

@@ -6,9 +6,10 @@ ghost use mathlib.Core.Path.{_≡_};
 ghost use mathlib.Core.List.{_∷_, []};
 ghost use Prim.Native.Nat.{_+_, _*_, _≤_, _<_};
 ghost use Rattle.laws.specs.Lists.{pairs};
-ghost use Rattle.ranges.specs.Steps.{toList, closing, entriesOf};
-ghost use Rattle.format4.specs.Format4.{points};
-ghost use Rattle.format4.specs.Size.{Columns, Below, counter, Adds, Counts, lengthOf, sizeOf};
+ghost use Rattle.ranges.specs.Steps.{toList};
+ghost use Rattle.ranges.specs.Cutting.{closing, entriesOf, points};
+ghost use Rattle.format4.specs.Size.{Columns, counter, lengthOf, sizeOf};
+ghost use Rattle.format4.specs.Walk.{Below, Adds, Counts};
 
 pub struct RangeCounter {
     pub segments: usize,

@@ -7,8 +7,8 @@ use native.Mathlib.Omega.{arith}
 use borrow.Author.Tests.{le-leb, lt-leb, eq-eqb, ne-eqb}
 use lib.ListN.{length, length-append, length-map}
 use Rattle.laws.specs.Lists.{Pair}
-use Rattle.ranges.specs.Steps.{pairDelta, begun, commit, step, finish, toList, closing, cutFrom, entriesOf, entries}
-use Rattle.ranges.specs.Cutting.{segments}
+use Rattle.ranges.specs.Steps.{begun, commit, step, finish, toList, cutFrom, entries}
+use Rattle.ranges.specs.Cutting.{segments, pairDelta, closing, entriesOf}
 use Rattle.ranges.proofs.CuttingLaws.{length-array}
 use Rattle.ranges.proofs.WalkLaws.{walk-cuts}
 use Rattle.format4.specs.Format4.{format4}

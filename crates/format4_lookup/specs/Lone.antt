@@ -4,7 +4,7 @@ use mathlib.Core.Path.{_≡_}
 use mathlib.Core.List.{List, [], _∷_}
 use Rattle.laws.specs.Lists.{Pair}
 use Rattle.ranges.specs.declared.Segment.{Segment}
-use Rattle.ranges.specs.Steps.{pairDelta, seg}
+use Rattle.ranges.specs.Cutting.{pairDelta, seg}
 
 -- below 0xFFFF, with a delta
 pub record Point (p : Pair) : Type 0 where

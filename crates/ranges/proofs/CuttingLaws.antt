@@ -19,8 +19,8 @@ use Rattle.laws.proofs.PiecesFirstLaws.{concat-snoc, pieces-first}
 use Rattle.laws.proofs.EachLaws.{each-append, each-of, each-map, each-mapped, each-concat}
 use Rattle.laws.proofs.LinkedLaws.{filled-left, linked-filled, pieces-linked, linked-parts}
 use Rattle.ranges.specs.declared.Segment.{Segment}
-use Rattle.ranges.specs.Steps.{closing, entries}
-use Rattle.ranges.specs.Cutting.{nextCode, nextGlyph, rangesOf, runsOf, reachesCost, Cut, cutOf, present, commitRun, cutRuns, cutRange, cuts, firstCode, lastCode, segmentOf, lastEnd, segments, glyphs, arrayOf, glyphArray, arrayFrom}
+use Rattle.ranges.specs.Steps.{entries, arrayFrom}
+use Rattle.ranges.specs.Cutting.{nextCode, nextGlyph, rangesOf, runsOf, reachesCost, Cut, cutOf, present, commitRun, cutRuns, cutRange, cuts, firstCode, lastCode, segmentOf, lastEnd, segments, glyphs, arrayOf, glyphArray, closing}
 
 -- ---- adjacent code points
 

@@ -17,8 +17,8 @@ use Rattle.ranges.specs.declared.Segment.{Segment}
 use Rattle.ranges.specs.declared.RangeState.{RangeState}
 use Rattle.ranges.specs.declared.Absorbed.{Absorbed}
 use Rattle.ranges.specs.declared.Committed.the-variants.{None, One, Two}
-use Rattle.ranges.specs.Steps.{pairDelta, seg, idle, begun, grown, turned, absorbed, pays, commit, step, finish, toList, closing, cutFrom, entries}
-use Rattle.ranges.specs.Cutting.{nextCode, nextGlyph, rangesOf, runsOf, reachesCost, Cut, loneDelta, cutOf, commitRun, cutRuns, cutRange, cuts, lastCode, segmentOf, segments, glyphs, glyphArray, arrayFrom}
+use Rattle.ranges.specs.Steps.{idle, begun, grown, turned, absorbed, pays, commit, step, finish, toList, cutFrom, entries, arrayFrom}
+use Rattle.ranges.specs.Cutting.{nextCode, nextGlyph, rangesOf, runsOf, reachesCost, Cut, loneDelta, cutOf, commitRun, cutRuns, cutRange, cuts, lastCode, segmentOf, segments, glyphs, glyphArray, pairDelta, seg, closing}
 use Rattle.ranges.proofs.CuttingLaws.{last-append, segments-closed, array-from, length-array}
 
 -- ---- a run as the walk has gathered it: from x to l

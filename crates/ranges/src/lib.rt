@@ -1,7 +1,8 @@
 // Cuts a rising list of (code point, glyph) pairs into the segments of a cmap format 4 table, one pair at a time.
 ghost use mathlib.Core.Path.{_≡_};
 ghost use Prim.Native.Nat.{_≤_};
-ghost use Rattle.ranges.specs.Steps.{idle, begun, grown, turned, pairDelta, costOf, pays, commit, step, finish};
+ghost use Rattle.ranges.specs.Steps.{idle, begun, grown, turned, costOf, pays, commit, step, finish};
+ghost use Rattle.ranges.specs.Cutting.{pairDelta};
 
 // Code points start to end. A delta of 0 says that the glyphs stand in the glyph array.
 pub struct Segment {

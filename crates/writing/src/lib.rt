@@ -10,7 +10,8 @@ ghost use Rattle.number.specs.BigEndian.{enc};
 ghost use Rattle.listing.specs.Job.{job};
 ghost use Rattle.plan.specs.Plan.{tableOf, Ready};
 ghost use Rattle.result.specs.Result.{tablesStart, offsetOf, recordBytes, recordsFrom, tablesBelow, resultOf, resultLength};
-ghost use Rattle.writing.specs.Writing.{sourced, Counts, Recorded, Laid, Room, Planned};
+ghost use Rattle.writing.specs.Writing.{Counts, Planned};
+ghost use Rattle.writing.specs.Parts.{sourced, Recorded, Laid, Room};
 
 // Where the table of record k stands, in a result of that many records.
 pub fn offset_of(os: [Outcome; 64], k: usize, count: usize) -> usize
