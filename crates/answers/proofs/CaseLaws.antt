@@ -19,8 +19,9 @@ use Rattle.checks.proofs.ChecksLaws.{at-most}
 use Rattle.mapped4.specs.Mapped4.{entry4, says4, lastSays, maps4}
 use Rattle.listing.specs.Listing.{maps, listed}
 use Rattle.covering.specs.Covered.{covered, siblingCovers}
-use Rattle.ranges.specs.Cutting.{commitRun, cutRuns, cuts, segments, glyphArray, arrayFrom}
-use Rattle.format4.specs.Format4.{offsetsFrom, logFrom, floorLog2, header, format4}
+use Rattle.ranges.specs.Cutting.{commitRun, cutRuns, cuts, segments, glyphArray}
+use Rattle.ranges.specs.Steps.{arrayFrom}
+use Rattle.format4.specs.Format4.{offsetsFrom, floorLog2, header, format4}
 use Rattle.format4.specs.Size.{sizeOf}
 use Rattle.plan.specs.declared.Outcome.the-variants.{NotRetained, Made}
 use Rattle.plan.specs.Plan.{tableOf, fresh, serves, server, retainedOutcome, outcomeOf, outcomes, plan, refused8, refused9}
@@ -48,7 +49,7 @@ unfolding ifLt ifLe ifEq first some anyOf be refused5 kindAt leadsTo bmpPair ful
 accepted-case = rw plan-case
 
 written-case : resultOf job (set (replicate 64 NotRetained) 0 (Made 32)) ≡ bytes
-unfolding ifLt ifLe ifEq first some each select anyOf flat pieces concat be enc encs kindAt leadsTo entry4 says4 lastSays maps4 maps listed commitRun cutRuns cuts segments glyphArray arrayFrom offsetsFrom logFrom floorLog2 header format4 tableOf countFrom sizesFrom recordsFrom tablesBelow resultOf
+unfolding ifLt ifLe ifEq first some each select anyOf flat pieces concat be enc encs kindAt leadsTo entry4 says4 lastSays maps4 maps listed commitRun cutRuns cuts segments glyphArray arrayFrom offsetsFrom floorLog2 header format4 tableOf countFrom sizesFrom recordsFrom tablesBelow resultOf
 written-case = refl
 
 pub result-case : resultOf job (plan job) ≡ bytes

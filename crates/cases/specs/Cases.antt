@@ -73,7 +73,7 @@ edges =
     format4-of (rise 10 20 4 ++ rise 14 40 4 ++ rise 18 70 1) (deltas-are (10 ∷ 0 ∷ 1 ∷ []) ∷ length-is 50 ∷ [])
     -- a range that ends at 0xFFFF is not followed by a closing segment
     ∷ format4-of (rise 0xFFFE 5 2) (deltas-are (7 ∷ []) ∷ length-is 24 ∷ [])
-    -- "No pairs: length 16, no groups."
+    -- no pairs make a subtable of no groups
     ∷ format12-of [] 0 16
     -- an end that is cut, one past the last glyph; glyph 0 with n = 2; a glyph at n
     ∷ mapped-of 100 200 5 10 (99 ∷ 100 ∷ 104 ∷ 105 ∷ 106 ∷ 200 ∷ []) (100 ∷ 104 ∷ 105 ∷ [])

@@ -10,8 +10,7 @@ use Rattle.laws.specs.Linked.{Each}
 use Rattle.laws.proofs.ChoiceLaws.{by-pick}
 use Rattle.laws.proofs.EachLaws.{each-append, each-of, each-both, each-parts, each-map, each-mapped, each-concat}
 use Rattle.ranges.specs.declared.Segment.{Segment}
-use Rattle.ranges.specs.Steps.{closing}
-use Rattle.ranges.specs.Cutting.{rangesOf, runsOf, Cut, cutOf, present, cutRange, cuts, firstCode, lastCode, segmentOf, lastEnd, segments, glyphs, arrayOf, glyphArray}
+use Rattle.ranges.specs.Cutting.{rangesOf, runsOf, Cut, cutOf, present, cutRange, cuts, firstCode, lastCode, segmentOf, lastEnd, segments, glyphs, arrayOf, glyphArray, closing}
 use Rattle.ranges.proofs.CuttingLaws.{parts, cuts-pairs, runs-each, cuts-each}
 use Rattle.cut_lookup.specs.Lookup.{Fits}
 

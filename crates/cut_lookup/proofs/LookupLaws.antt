@@ -21,8 +21,7 @@ use Rattle.laws.proofs.LinkedLaws.{linked-filled, pieces-linked}
 use Rattle.laws.proofs.PairsLaws.{firsts-pairs, each-pairs}
 use Rattle.laws.proofs.RisingEachLaws.{Climbs, rising-climbs, climbs-right}
 use Rattle.ranges.specs.declared.Segment.{Segment}
-use Rattle.ranges.specs.Steps.{closing, entriesOf}
-use Rattle.ranges.specs.Cutting.{nextCode, nextGlyph, rangesOf, runsOf, Cut, cutOf, present, cutRange, cuts, runDelta, firstCode, lastCode, segmentOf, lastEnd, segments, glyphs, arrayOf, glyphArray}
+use Rattle.ranges.specs.Cutting.{nextCode, nextGlyph, rangesOf, runsOf, Cut, cutOf, present, cutRange, cuts, runDelta, firstCode, lastCode, segmentOf, lastEnd, segments, glyphs, arrayOf, glyphArray, closing, entriesOf}
 use Rattle.ranges.proofs.CuttingLaws.{parts, Adjacent, linked-length, cuts-pairs, runs-each, cuts-each, cuts-adjacent}
 use Rattle.cut_lookup.proofs.FitsLaws.{Fit, cuts-fit, first-low}
 use Rattle.cut_lookup.specs.Lookup.{valueIn, lookupIn, unlisted, codes, Fits, Listed}

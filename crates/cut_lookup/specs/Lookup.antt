@@ -8,7 +8,7 @@ use Rattle.laws.specs.Choice.{pick}
 use Rattle.laws.specs.Lists.{Pair, Rising}
 use Rattle.laws.specs.Linked.{Each}
 use Rattle.ranges.specs.declared.Segment.{Segment}
-use Rattle.ranges.specs.Steps.{entriesOf}
+use Rattle.ranges.specs.Cutting.{entriesOf}
 
 -- What a segment that holds c gives: "(c+delta) mod 65,536", or where the delta is 0 its glyph array's entry for c. The array is
 -- given from the segment's first entry on.

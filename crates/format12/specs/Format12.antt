@@ -1,4 +1,4 @@
--- The bytes of a format 12 subtable (docs/01-rules.md, "Format 12", from "Else write" on).
+-- The bytes of a format 12 subtable for a list of pairs (docs/01-rules.md, "Format 12").
 -- What another format of the same layout would change is `consecutive` and the number 12 alone.
 use Prim.Native.Nat.{ℕ, _+_, _*_, _≤_}
 use mathlib.Core.Path.{_≡_}
@@ -9,6 +9,7 @@ use lib.Dec.{eqb}
 use Rattle.laws.specs.Choice.{both}
 use Rattle.laws.specs.Lists.{Pair}
 use Rattle.laws.specs.Pieces.{pieces}
+use Rattle.number.specs.Limits.{pairsMax}
 use Rattle.number.specs.Row.{encs}
 use Rattle.format12.specs.declared.Group.{Group}
 use Rattle.format12.specs.declared.Size.{Size}
@@ -34,7 +35,7 @@ groupOf (p ∷ ps) = group (p .0) (lastOf p ps .0) (p .1)
 unfoldable pub grouped : (Pair → Pair → Bool) → List Pair → List Group
 grouped joins ps = map groupOf (pieces joins ps)
 
--- "maximal groups where code point and glyph both rise by one"
+-- those of format 12
 abbrev pub groups : List Pair → List Group
 groups ps = grouped consecutive ps
 
@@ -43,7 +44,7 @@ abbrev pub fields : List Group → List ℕ
 fields [] = []
 fields (g ∷ gs) = g .start ∷ g .end ∷ g .glyph ∷ fields gs
 
--- a subtable of n groups has this length: "No pairs: length 16, no groups."
+-- the length of a subtable of n groups
 abbrev pub tableLength : ℕ → ℕ
 tableLength n = 16 + 12 * n
 
@@ -54,7 +55,7 @@ header format language n = encs 2 (format ∷ 0 ∷ []) ++ encs 4 (tableLength n
 unfoldable pub table : ℕ → ℕ → List Group → List ℕ
 table format language gs = header format language (length gs) ++ encs 4 (fields gs)
 
--- "with the source's language, the listed pairs the subtable maps": ps
+-- with the source's language, for the listed pairs ps that its subtable maps
 abbrev pub format12 : ℕ → List Pair → List ℕ
 format12 language ps = table 12 language (groups ps)
 
@@ -65,7 +66,7 @@ sizeOf ps = record { groups = length (groups ps); bytes = tableLength (length (g
 -- a slice of code points and one of glyphs are the two columns of a list of pairs
 pub record Columns (cs gs : List ℕ) : Type 0 where
   pub even : length gs ≡ length cs
-  pub few : length cs ≤ 65535
+  pub few : length cs ≤ pairsMax
 
 -- n is the number of groups that the pairs make, and l bytes have room for their subtable at a place
 pub record Room (ps : List Pair) (n at l : ℕ) : Type 0 where

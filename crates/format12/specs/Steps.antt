@@ -1,4 +1,5 @@
--- What each method of the running group does, and which groups a walk with it ends.
+-- Inner: what the functions of this crate hand to each other; no promise names it. The steps of the running group, and the groups
+-- that a walk with it ends: those of Format12.antt, by walk-groups.
 use Prim.Native.Nat.{ℕ, _+_, _≤_}
 use mathlib.Core.List.{List, [], _∷_, _++_}
 use mathlib.Core.Bool.{Bool, true, false}

@@ -16,22 +16,22 @@ pub struct Group {
     pub glyph: u16,
 }
 
-pub enum Ended {
+enum Ended {
     Nothing,
     One(Group),
 }
 
 // The running group, up to the last pair seen.
-pub struct GroupState {
-    pub running: bool,
-    pub start: u32,
-    pub end: u32,
-    pub glyph: u16,
+struct GroupState {
+    running: bool,
+    start: u32,
+    end: u32,
+    glyph: u16,
 }
 
-pub struct Absorbed {
-    pub state: GroupState,
-    pub ended: Ended,
+struct Absorbed {
+    state: GroupState,
+    ended: Ended,
 }
 
 pub struct Size {
@@ -40,7 +40,7 @@ pub struct Size {
 }
 
 // Whether the pair goes on with the group.
-pub fn is_gid_consecutive(end: u32, start: u32, glyph: u16, c: u32, g: u16) -> bool
+fn is_gid_consecutive(end: u32, start: u32, glyph: u16, c: u32, g: u16) -> bool
     ensures { λ r. ⌜ r ≡ isConsecutive end start glyph c g ⌝ }
 {
     if c as u64 == end as u64 + 1 {
@@ -50,7 +50,7 @@ pub fn is_gid_consecutive(end: u32, start: u32, glyph: u16, c: u32, g: u16) -> b
 }
 
 impl GroupState {
-    pub fn new() -> Self
+    fn new() -> Self
         ensures { λ r. ⌜ r ≡ idle ⌝ }
     {
         GroupState {
@@ -62,7 +62,7 @@ impl GroupState {
     }
 
     // The group that ends here.
-    pub fn finish(self) -> Ended
+    fn finish(self) -> Ended
         ensures { λ r. ⌜ r ≡ finish self ⌝ }
     {
         if self.running {
@@ -76,7 +76,7 @@ impl GroupState {
     }
 
     // A group of which c is the last pair seen.
-    pub fn up_to(start: u32, c: u32, glyph: u16) -> Self
+    fn up_to(start: u32, c: u32, glyph: u16) -> Self
         ensures { λ r. ⌜ r ≡ upTo start c glyph ⌝ }
     {
         GroupState {
@@ -88,7 +88,7 @@ impl GroupState {
     }
 
     // Whether the pair goes on with the running group.
-    pub fn goes_on(self, c: u32, g: u16) -> bool
+    fn goes_on(self, c: u32, g: u16) -> bool
         ensures { λ r. ⌜ r ≡ goesOn self c g ⌝ }
     {
         if self.running {
@@ -98,7 +98,7 @@ impl GroupState {
     }
 
     // Takes one pair in.
-    pub fn absorb(self, c: u32, g: u16) -> Absorbed
+    fn absorb(self, c: u32, g: u16) -> Absorbed
         ensures { λ r. ⌜ r ≡ step self c g ⌝ }
     {
         if self.goes_on(c, g) {

@@ -17,8 +17,8 @@ use Rattle.ranges.specs.declared.Committed.the-variants.{None, One, Two}
 use Rattle.ranges.specs.declared.RangeState.{RangeState}
 use Rattle.ranges.specs.declared.Absorbed.{Absorbed}
 use Rattle.ranges.specs.declared.Finished.{Finished}
-use Rattle.ranges.specs.Steps.{idle, step, finish, toList, closing, cutFrom, entries}
-use Rattle.ranges.specs.Cutting.{segments}
+use Rattle.ranges.specs.Steps.{idle, step, finish, toList, cutFrom, entries}
+use Rattle.ranges.specs.Cutting.{segments, closing}
 use Rattle.ranges.proofs.CuttingLaws.{segments-some, length-array}
 use Rattle.ranges.proofs.WalkLaws.{walk-cuts}
 use Rattle.ranges.proofs.StepsLaws.{entries-append, sink-step, sink-end}
@@ -26,7 +26,8 @@ use Rattle.format4.specs.declared.RangeCounter.{RangeCounter}
 use Rattle.format4.specs.Format4.{format4}
 use Rattle.format4.specs.declared.Size.{Size}
 use Rattle.format4.specs.declared.Size.the-variants.{Empty, TooLong, Fits}
-use Rattle.format4.specs.Size.{Columns, Below, Adds, Counts, counter, counted, countOf, lengthOf, sizeOf}
+use Rattle.format4.specs.Size.{Columns, counter, countOf, lengthOf, sizeOf}
+use Rattle.format4.specs.Walk.{Below, Adds, Counts, counted}
 use Rattle.format4.proofs.Format4Laws.{length-format4}
 
 counted-append : (n : RangeCounter) (a b : List Segment) → counted n (a ++ b) ≡ counted (counted n a) b

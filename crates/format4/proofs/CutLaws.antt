@@ -11,10 +11,9 @@ use Rattle.laws.proofs.ChoiceLaws.{by-pick}
 use Rattle.ranges.specs.declared.Segment.{Segment}
 use Rattle.ranges.specs.declared.Committed.{Committed}
 use Rattle.ranges.specs.declared.RangeState.{RangeState}
-use Rattle.ranges.specs.Steps.{commit, whole, earlier, theRun, toList, closing, entriesOf, entries}
-use Rattle.ranges.specs.Cutting.{segments}
-use Rattle.format4.specs.Format4.{points}
-use Rattle.format4.specs.Share.{Fed}
+use Rattle.ranges.specs.Steps.{commit, whole, earlier, theRun, toList, entries}
+use Rattle.ranges.specs.Cutting.{segments, closing, entriesOf, points}
+use Rattle.format4.specs.Walk.{Fed}
 use Rattle.format4.proofs.WalkLaws.{commit-cases, Walk, segments-walk}
 
 -- k pairs are in a running range and not committed

@@ -10,10 +10,10 @@ use Rattle.laws.specs.Choice.{pick}
 use Rattle.laws.specs.Lists.{Pair}
 use Rattle.number.proofs.RowLaws.{length-encs}
 use Rattle.ranges.specs.declared.Segment.{Segment}
-use Rattle.ranges.specs.Steps.{entriesOf}
-use Rattle.ranges.specs.Cutting.{segments, glyphArray, arrayFrom}
+use Rattle.ranges.specs.Cutting.{segments, glyphArray, entriesOf, points}
+use Rattle.ranges.specs.Steps.{arrayFrom}
 use Rattle.ranges.proofs.CuttingLaws.{length-array}
-use Rattle.format4.specs.Format4.{points, offsetsFrom, lengthWith, header, endOf, startOf, deltaOf, numbers, format4}
+use Rattle.format4.specs.Format4.{offsetsFrom, lengthWith, header, endOf, startOf, deltaOf, numbers, format4}
 use Rattle.format4.proofs.CutLaws.{segments-fed, entries-fed, segments-few}
 
 pub length-offsets : (before : ℕ) (ss : List Segment) → length (offsetsFrom before ss) ≡ length ss

@@ -16,8 +16,8 @@ use Rattle.ranges.specs.declared.Committed.the-variants.{None, One, Two}
 use Rattle.ranges.specs.declared.Absorbed.{Absorbed}
 use Rattle.ranges.specs.declared.Finished.{Finished}
 use Rattle.ranges.specs.declared.RangeState.{RangeState}
-use Rattle.ranges.specs.Steps.{idle, begun, grown, turned, costOf, pays, commit, whole, splits, earlier, theRun, absorbed, step, finish, toList, closing, cutFrom}
-use Rattle.ranges.specs.Cutting.{segments}
+use Rattle.ranges.specs.Steps.{idle, begun, grown, turned, costOf, pays, commit, whole, splits, earlier, theRun, absorbed, step, finish, toList, cutFrom}
+use Rattle.ranges.specs.Cutting.{segments, closing}
 use Rattle.ranges.proofs.WalkLaws.{walk-cuts}
 
 -- a commit is one of three

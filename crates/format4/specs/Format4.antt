@@ -1,18 +1,14 @@
--- The bytes of a format 4 subtable for a list of pairs (01, "Format 4").
-use Prim.Native.Nat.{ℕ, zero, suc, _+_, _-_, _*_, _/_, _^_}
+-- The bytes of a format 4 subtable for a list of pairs (docs/01-rules.md, "Format 4").
+use Prim.Native.Nat.{ℕ, _+_, _-_, _*_, _^_}
 use mathlib.Core.List.{List, [], _∷_, _++_, map}
 use lib.Dec.{eqb, ltb}
 use lib.ListN.{length}
 use Rattle.laws.specs.Choice.{pick}
 use Rattle.laws.specs.Lists.{Pair}
+use Rattle.laws.specs.Search.{first}
 use Rattle.number.specs.Row.{encs}
 use Rattle.ranges.specs.declared.Segment.{Segment}
-use Rattle.ranges.specs.Steps.{entriesOf}
-use Rattle.ranges.specs.Cutting.{segments, glyphArray}
-
--- how many code points a segment has
-abbrev pub points : Segment → ℕ
-points x = x .end + 1 - x .start
+use Rattle.ranges.specs.Cutting.{segments, glyphArray, entriesOf}
 
 -- the range offsets, where `before` entries of the array stand before the first of these segments: how many bytes it is from the offset
 -- itself to the segment's first entry, over the offsets that follow and those entries; 0 for a segment with a delta
@@ -20,20 +16,15 @@ unfoldable pub offsetsFrom : ℕ → List Segment → List ℕ
 offsetsFrom before [] = []
 offsetsFrom before (x ∷ xs) = pick (eqb (x .delta) 0) (2 * length (x ∷ xs) + 2 * before) 0 ∷ offsetsFrom (before + entriesOf x) xs
 
--- the floor of the binary logarithm of s, where s is at most f
-unfoldable pub logFrom : ℕ → ℕ → ℕ
-logFrom zero s = 0
-logFrom (suc f) s = let more = suc (logFrom f (s / 2)) in pick (ltb s 2) 0 more
-
+-- log2 of s rounded down: the first e such that s is below 2^(e + 1)
 unfoldable pub floorLog2 : ℕ → ℕ
-unfolding logFrom
-floorLog2 s = logFrom s s
+floorLog2 s = first (λ e. ltb s (2 ^ (e + 1))) s 0
 
--- "Length 16+8s+2·glyphs"
+-- the length of a subtable with s segments and g entries in its array
 abbrev pub lengthWith : ℕ → ℕ → ℕ
 lengthWith s g = 16 + 8 * s + 2 * g
 
--- "4, length, source language, segCountX2, searchRange = 2·2^e, entrySelector e = floor(log2 s), rangeShift = 2s−searchRange"
+-- format, length, language, segCountX2, searchRange, entrySelector, rangeShift
 unfoldable pub header : ℕ → ℕ → ℕ → List ℕ
 unfolding floorLog2
 header language s g =
@@ -49,7 +40,7 @@ startOf x = x .start
 abbrev pub deltaOf : Segment → ℕ
 deltaOf x = x .delta
 
--- "Then ends, a zero, starts, deltas, range offsets, glyphs."
+-- ends, a zero, starts, deltas, range offsets, glyph array
 abbrev pub columns : List Segment → List ℕ → List ℕ
 columns ss array = map endOf ss ++ (0 ∷ (map startOf ss ++ (map deltaOf ss ++ (offsetsFrom 0 ss ++ array))))
 

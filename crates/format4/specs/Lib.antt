@@ -1,3 +1,3 @@
 pub mod Format4
 pub mod Size
-pub mod Share
+pub mod Walk

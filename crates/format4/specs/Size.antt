@@ -1,4 +1,4 @@
--- How long a format 4 subtable gets, and whether it is written at all (01, "Format 4").
+-- How long a format 4 subtable gets, and whether it is written at all (docs/01-rules.md, "Format 4").
 use Prim.Native.Nat.{ℕ, _+_, _*_, _≤_, _<_}
 use mathlib.Core.Path.{_≡_}
 use mathlib.Core.List.{List, [], _∷_}
@@ -7,8 +7,6 @@ use lib.ListN.{length, getD}
 use Rattle.laws.specs.Choice.{pick}
 use Rattle.laws.specs.Lists.{Pair}
 use Rattle.number.specs.Limits.{pairsMax, format4LengthMax}
-use Rattle.ranges.specs.declared.Segment.{Segment}
-use Rattle.ranges.specs.Steps.{entries}
 use Rattle.ranges.specs.Cutting.{segments, glyphArray}
 use Rattle.format4.specs.declared.RangeCounter.{RangeCounter}
 use Rattle.format4.specs.declared.Size.{Size}
@@ -31,28 +29,7 @@ countOf ps = counter (length (segments ps)) (length (glyphArray ps))
 abbrev pub lengthOf : RangeCounter → ℕ
 lengthOf n = lengthWith (n .segments) (n .glyphs)
 
--- "'empty' if none"; "above 65,535 the record is too long and dropped, whatever the room"
+-- no pairs make no subtable; one that is longer than its length field can say is left out, however much room there is
 unfoldable pub sizeOf : List Pair → Size
 sizeOf [] = Empty
 sizeOf (p ∷ ps) = pick (leb (lengthOf (countOf (p ∷ ps))) format4LengthMax) (Fits (countOf (p ∷ ps))) TooLong
-
--- ---- the counter
-
--- both counts are below m
-pub record Below (m : ℕ) (n : RangeCounter) : Type 0 where
-  pub segments : n .segments < m
-  pub glyphs : n .glyphs < m
-
--- a counter that has seen these segments too
-abbrev pub counted : RangeCounter → List Segment → RangeCounter
-counted n ss = counter (n .segments + length ss) (n .glyphs + entries ss)
-
--- m has seen these segments after n; a segment has at most 65,536 entries
-pub record Adds (n : RangeCounter) (ss : List Segment) (m : RangeCounter) : Type 0 where
-  pub is : m ≡ counted n ss
-  pub glyphs : m .glyphs ≤ n .glyphs + 65536 * length ss
-
--- what a walk over the pairs gives: their count, far from an overflow
-pub record Counts (ps : List Pair) (n : RangeCounter) : Type 0 where
-  pub is : n ≡ countOf ps
-  pub below : Below 1000000000000 n

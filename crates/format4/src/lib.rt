@@ -6,9 +6,10 @@ ghost use mathlib.Core.Path.{_≡_};
 ghost use mathlib.Core.List.{_∷_, []};
 ghost use Prim.Native.Nat.{_+_, _*_, _≤_, _<_};
 ghost use Rattle.laws.specs.Lists.{pairs};
-ghost use Rattle.ranges.specs.Steps.{toList, closing, entriesOf};
-ghost use Rattle.format4.specs.Format4.{points};
-ghost use Rattle.format4.specs.Size.{Columns, Below, counter, Adds, Counts, lengthOf, sizeOf};
+ghost use Rattle.ranges.specs.Steps.{toList};
+ghost use Rattle.ranges.specs.Cutting.{closing, entriesOf, points};
+ghost use Rattle.format4.specs.Size.{Columns, counter, lengthOf, sizeOf};
+ghost use Rattle.format4.specs.Walk.{Below, Adds, Counts};
 
 pub struct RangeCounter {
     pub segments: usize,
@@ -43,7 +44,7 @@ pub fn entries_of(x: Segment) -> usize
 }
 
 impl RangeCounter {
-    pub fn new() -> Self
+    fn new() -> Self
         ensures { λ r. ⌜ r ≡ counter 0 0 ⌝ }
     {
         RangeCounter {
@@ -52,7 +53,7 @@ impl RangeCounter {
         }
     }
 
-    pub fn write_one_range(self, x: Segment) -> Self
+    fn write_one_range(self, x: Segment) -> Self
         requires { ⌜ Below 1000000000000 self ⌝ }
         ensures { λ r. ⌜ Adds self (x ∷ []) r ⌝ }
     {
@@ -62,7 +63,7 @@ impl RangeCounter {
         }
     }
 
-    pub fn absorb(self, out: Committed) -> Self
+    fn absorb(self, out: Committed) -> Self
         requires { ⌜ Below 100000000000 self ⌝ }
         ensures { λ r. ⌜ Adds self (toList out) r ⌝ }
     {
@@ -74,7 +75,7 @@ impl RangeCounter {
     }
 
     // The closing segment, if there is one.
-    pub fn close(self, close: bool) -> Self
+    fn close(self, close: bool) -> Self
         requires { ⌜ Below 100000000000 self ⌝ }
         ensures { λ r. ⌜ Adds self (closing close) r ⌝ }
     {
@@ -88,7 +89,7 @@ impl RangeCounter {
         self
     }
 
-    pub fn length(self) -> usize
+    fn length(self) -> usize
         requires { ⌜ Below 1000000000000 self ⌝ }
         ensures { λ r. ⌜ r ≡ lengthOf self ⌝ }
     {
@@ -97,7 +98,7 @@ impl RangeCounter {
 }
 
 // How many segments the pairs are cut into, and how many glyphs their array has.
-pub fn find_segcount(codes: &[u32], glyphs: &[u16]) -> RangeCounter
+fn find_segcount(codes: &[u32], glyphs: &[u16]) -> RangeCounter
     requires { ⌜ Columns (now codes) (now glyphs) ⌝ }
     ensures { λ r. ⌜ Counts (pairs (now (codes .entry)) (now (glyphs .entry))) r ⌝ }
 {

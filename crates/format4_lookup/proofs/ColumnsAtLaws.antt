@@ -15,8 +15,8 @@ use Rattle.number.specs.BigEndian.{be}
 use Rattle.number.specs.Row.{encs}
 use Rattle.number.proofs.RowLaws.{be-encs-fits}
 use Rattle.ranges.specs.declared.Segment.{Segment}
-use Rattle.ranges.specs.Steps.{entriesOf, entries}
-use Rattle.ranges.specs.Cutting.{segments, glyphArray}
+use Rattle.ranges.specs.Steps.{entries}
+use Rattle.ranges.specs.Cutting.{segments, glyphArray, entriesOf}
 use Rattle.source.specs.Fields.{endCode, startCode, idDelta, idRangeOffset, glyphIdArray}
 use Rattle.format4.specs.Format4.{offsetsFrom, header, endOf, startOf, deltaOf, numbers, format4}
 use Rattle.format4.proofs.Format4Laws.{length-offsets}

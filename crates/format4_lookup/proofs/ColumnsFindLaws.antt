@@ -14,7 +14,8 @@ use Rattle.laws.specs.Linked.{Each}
 use Rattle.laws.proofs.ChoiceLaws.{by-pick, by-leb, if-lt, else-lt, if-eq, else-eq}
 use Rattle.laws.proofs.EachLaws.{each-at}
 use Rattle.ranges.specs.declared.Segment.{Segment}
-use Rattle.ranges.specs.Steps.{entriesOf, entries}
+use Rattle.ranges.specs.Steps.{entries}
+use Rattle.ranges.specs.Cutting.{entriesOf}
 use Rattle.source.specs.Fields.{endCode, startCode, idDelta, idRangeOffset, glyphIdArray, arrayEntries}
 use Rattle.lookup.specs.declared.Found.{Found}
 use Rattle.lookup.specs.declared.Found.the-variants.{Nothing, Glyph}

@@ -7,8 +7,8 @@ use native.Mathlib.Omega.{arith}
 use borrow.Author.Tests.{le-leb, lt-leb, eq-eqb, ne-eqb}
 use lib.ListN.{length, length-append, length-map}
 use Rattle.laws.specs.Lists.{Pair}
-use Rattle.ranges.specs.Steps.{deltaOf, begun, commit, step, finish, toList, closing, cutFrom, entriesOf, entries}
-use Rattle.ranges.specs.Cutting.{segments}
+use Rattle.ranges.specs.Steps.{begun, commit, step, finish, toList, cutFrom, entries}
+use Rattle.ranges.specs.Cutting.{segments, pairDelta, closing, entriesOf}
 use Rattle.ranges.proofs.CuttingLaws.{length-array}
 use Rattle.ranges.proofs.WalkLaws.{walk-cuts}
 use Rattle.format4.specs.Format4.{format4}
@@ -32,7 +32,7 @@ segments-lone [] h = walk-cuts []
 segments-lone (p ∷ ps) h = walk-cuts (p ∷ ps) ∙ walk-lone p ps h
 
 entries-alone : (p : Pair) → Point p → entriesOf (alone p) ≡ 0
-entries-alone p h = rw (ne-eqb (deltaOf (p .0) (p .1)) 0 (h .turns))
+entries-alone p h = rw (ne-eqb (pairDelta (p .0) (p .1)) 0 (h .turns))
 
 entries-lone : (ps : List Pair) → Lone ps → entries (map alone ps ++ closing true) ≡ 0
 entries-lone [] h = refl

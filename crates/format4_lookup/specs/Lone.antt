@@ -4,12 +4,12 @@ use mathlib.Core.Path.{_≡_}
 use mathlib.Core.List.{List, [], _∷_}
 use Rattle.laws.specs.Lists.{Pair}
 use Rattle.ranges.specs.declared.Segment.{Segment}
-use Rattle.ranges.specs.Steps.{deltaOf, seg}
+use Rattle.ranges.specs.Cutting.{pairDelta, seg}
 
 -- below 0xFFFF, with a delta
 pub record Point (p : Pair) : Type 0 where
   pub low : p .0 < 65535
-  pub turns : deltaOf (p .0) (p .1) ≡ 0 → ⊥
+  pub turns : pairDelta (p .0) (p .1) ≡ 0 → ⊥
 
 -- no code point is adjacent to the next
 abbrev pub Lone : List Pair → Type 0
@@ -19,7 +19,7 @@ Lone (p ∷ q ∷ ps) = Point p × ((q .0 ≡ p .0 + 1 → ⊥) × Lone (q ∷ p
 
 -- a segment of its own
 abbrev pub alone : Pair → Segment
-alone p = seg (p .0) (p .0) (deltaOf (p .0) (p .1))
+alone p = seg (p .0) (p .0) (pairDelta (p .0) (p .1))
 
 -- glyph 1 at n even numbers from 2·i on
 abbrev pub spaced : ℕ → ℕ → List Pair

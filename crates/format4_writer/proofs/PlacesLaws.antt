@@ -14,10 +14,10 @@ use Rattle.number.specs.Row.{encs}
 use Rattle.number.proofs.BigEndianLaws.{length-put}
 use Rattle.number.proofs.RowLaws.{put-one, length-encs, encs-append, encs-then, put-encs}
 use Rattle.ranges.specs.declared.Segment.{Segment}
-use Rattle.ranges.specs.Steps.{entriesOf}
-use Rattle.ranges.specs.Cutting.{arrayFrom}
-use Rattle.format4.specs.Format4.{floorLog2, points, offsetsFrom, header, endOf, startOf, deltaOf, numbers}
-use Rattle.format4.specs.Share.{Fed}
+use Rattle.ranges.specs.Cutting.{entriesOf, points}
+use Rattle.ranges.specs.Steps.{arrayFrom}
+use Rattle.format4.specs.Format4.{floorLog2, offsetsFrom, header, endOf, startOf, deltaOf, numbers}
+use Rattle.format4.specs.Walk.{Fed}
 use Rattle.format4.proofs.Format4Laws.{length-offsets, array-step}
 use Rattle.format4_writer.specs.declared.RangeWriter.{RangeWriter}
 use Rattle.format4_writer.specs.Places.{offsetAt, partOf, nextOf, putOne, putAll, columnsAt, Apart, placesAt, headed}

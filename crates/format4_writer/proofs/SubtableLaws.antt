@@ -7,12 +7,12 @@ use lib.ListN.{length}
 use lib.Seq.{sets}
 use Rattle.laws.specs.Lists.{pairs}
 use Rattle.laws.proofs.PairsLaws.{seconds-pairs, length-even}
-use Rattle.ranges.specs.Steps.{entries}
+use Rattle.ranges.specs.Steps.{entries, arrayFrom}
 use Rattle.format4.specs.declared.RangeCounter.{RangeCounter}
-use Rattle.ranges.specs.Cutting.{segments, glyphArray, arrayFrom}
+use Rattle.ranges.specs.Cutting.{segments, glyphArray}
 use Rattle.ranges.proofs.CuttingLaws.{array-from, length-array}
 use Rattle.format4.specs.Format4.{format4}
-use Rattle.format4.specs.Share.{Fed}
+use Rattle.format4.specs.Walk.{Fed}
 use Rattle.format4.specs.Size.{Columns, lengthOf}
 use Rattle.format4.proofs.CutLaws.{segments-fed}
 use Rattle.format4.proofs.CountLaws.{Told}

@@ -12,12 +12,11 @@ use Rattle.ranges.specs.declared.Segment.{Segment}
 use Rattle.ranges.specs.declared.RangeState.{RangeState}
 use Rattle.ranges.specs.declared.Absorbed.{Absorbed}
 use Rattle.ranges.specs.declared.Finished.{Finished}
-use Rattle.ranges.specs.Steps.{idle, step, finish, toList, closing, cutFrom}
+use Rattle.ranges.specs.Steps.{idle, step, finish, toList, cutFrom}
 use Rattle.ranges.proofs.StepsLaws.{entries-append, walk-step, walk-end}
-use Rattle.format4.specs.Format4.{points}
 use Rattle.format4.specs.Size.{Columns}
-use Rattle.format4.specs.Share.{Fed}
-use Rattle.ranges.specs.Cutting.{segments}
+use Rattle.format4.specs.Walk.{Fed}
+use Rattle.ranges.specs.Cutting.{segments, closing, points}
 use Rattle.ranges.proofs.WalkLaws.{walk-cuts}
 use Rattle.format4_writer.specs.declared.RangeWriter.{RangeWriter}
 use Rattle.format4_writer.specs.Places.{partOf, nextOf, putOne, putAll, movedBy, Room, columnsAt, Apart}

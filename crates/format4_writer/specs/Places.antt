@@ -1,5 +1,5 @@
--- What is written for each segment, where it goes, and the room that it wants: the steps between write_format4 and its parts,
--- which its own contract does not name.
+-- Inner: what the functions of this crate hand to each other; no promise names it. What is written for each segment, where it goes,
+-- and the room that it wants.
 use Prim.Native.Nat.{ℕ, _+_, _-_, _*_, _^_, _≤_, _<_}
 use mathlib.Core.Path.{_≡_}
 use mathlib.Core.List.{List, [], _∷_, map}
@@ -8,16 +8,17 @@ use lib.ListN.{length, take, drop}
 use lib.Seq.{sets}
 use Rattle.laws.specs.Choice.{pick}
 use Rattle.number.specs.BigEndian.{put}
+use Rattle.number.specs.Limits.{format4LengthMax}
 use Rattle.number.specs.Row.{encs}
 use Rattle.ranges.specs.declared.Segment.{Segment}
-use Rattle.ranges.specs.Steps.{entriesOf, entries}
-use Rattle.ranges.specs.Cutting.{arrayFrom}
-use Rattle.format4.specs.Format4.{points, floorLog2, header, endOf, startOf, deltaOf, offsetsFrom}
-use Rattle.format4.specs.Share.{Fed}
+use Rattle.ranges.specs.Steps.{entries, arrayFrom}
+use Rattle.ranges.specs.Cutting.{entriesOf, points}
+use Rattle.format4.specs.Format4.{floorLog2, lengthWith, header, endOf, startOf, deltaOf, offsetsFrom}
+use Rattle.format4.specs.Walk.{Fed}
 use Rattle.format4_writer.specs.declared.Log.{Log}
 use Rattle.format4_writer.specs.declared.RangeWriter.{RangeWriter}
 
--- the floor of the binary logarithm of s, and its power of two
+-- log2 of s rounded down, and its power of two
 abbrev pub logOf : ℕ → Log
 logOf s = record { e = floorLog2 s; power = 2 ^ floorLog2 s }
 
@@ -111,5 +112,5 @@ headed o at language s g = sets (sets o at (encs 2 (header language s g))) (at +
 -- the length fits its field, and the subtable the output
 pub record Space (s g at l : ℕ) : Type 0 where
   pub some : 1 ≤ s
-  pub short : 16 + 8 * s + 2 * g ≤ 65535
-  pub room : at + (16 + 8 * s + 2 * g) ≤ l
+  pub short : lengthWith s g ≤ format4LengthMax
+  pub room : at + lengthWith s g ≤ l

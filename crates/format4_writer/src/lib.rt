@@ -10,35 +10,33 @@ ghost use lib.ListN.{length, take, drop};
 ghost use lib.Seq.{sets};
 ghost use Rattle.laws.specs.Lists.{pairs};
 ghost use Rattle.number.specs.Row.{encs};
-ghost use Rattle.ranges.specs.Steps.{toList, closing};
+ghost use Rattle.ranges.specs.Steps.{toList};
 ghost use Rattle.format4.specs.declared.Size.the-variants.{Fits};
-ghost use Rattle.ranges.specs.Cutting.{segments};
+ghost use Rattle.ranges.specs.Cutting.{segments, closing};
 ghost use Rattle.format4.specs.Format4.{floorLog2, format4};
 ghost use Rattle.format4.specs.Size.{Columns, lengthOf, sizeOf};
 ghost use Rattle.format4_writer.specs.Places.{Logs, offsetAt, nextOf, putThree, putGlyphs, putOne, putAll, movedBy, Small, Room, columnsAt, Apart, placesAt, headed, Space};
 
-pub struct Log {
-    pub e: u32,
-    pub power: u32,
+struct Log {
+    e: u32,
+    power: u32,
 }
 
-// The floor of the binary logarithm of s, and its power of two.
-pub fn floor_log2(s: u32) -> Log
+// log2 of s rounded down, and its power of two.
+fn floor_log2(s: u32) -> Log
     requires { ⌜ (1 ≤ s) × (s < 65536) ⌝ }
     ensures { λ r. ⌜ Logs s r ⌝ }
 {
-    let mut v = s;
     let mut e: u32 = 0;
-    let mut p: u32 = 1;
-    while 1 < v {
-        v = v / 2;
+    let mut power: u32 = 1;
+    while power * 2 <= s {
+        power *= 2;
         e += 1;
-        p *= 2;
     }
-    Log { e: e, power: p }
+    Log { e: e, power: power }
 }
 
-pub fn put_four(out: &mut [u8], at: usize, a: u32, b: u32, c: u32, d: u32)
+fn put_four(out: &mut [u8], at: usize, a: u32, b: u32, c: u32, d: u32)
     requires { ⌜ at + 8 ≤ length (now out) ⌝ }
     ensures { λ _. ⌜ now (out .exit) ≡ sets (now (out .entry)) at (encs 2 (a ∷ b ∷ c ∷ d ∷ [])) ⌝ }
 {
@@ -49,7 +47,7 @@ pub fn put_four(out: &mut [u8], at: usize, a: u32, b: u32, c: u32, d: u32)
 }
 
 // searchRange, entrySelector and rangeShift of s segments.
-pub fn put_search(out: &mut [u8], at: usize, s: u32)
+fn put_search(out: &mut [u8], at: usize, s: u32)
     requires { ⌜ (1 ≤ s) × ((s < 65536) × (at + 6 ≤ length (now out))) ⌝ }
     ensures { λ _. ⌜ now (out .exit) ≡ sets (now (out .entry)) at (encs 2 ((2 * 2 ^ floorLog2 s) ∷ floorLog2 s ∷ (2 * s - 2 * 2 ^ floorLog2 s) ∷ [])) ⌝ }
 {
@@ -60,7 +58,7 @@ pub fn put_search(out: &mut [u8], at: usize, s: u32)
 }
 
 // The seven numbers of the header, and the zero after the ends.
-pub fn put_header(out: &mut [u8], at: usize, language: u32, s: usize, g: usize)
+fn put_header(out: &mut [u8], at: usize, language: u32, s: usize, g: usize)
     requires { ⌜ Space s g at (length (now out)) ⌝ }
     ensures { λ _. ⌜ now (out .exit) ≡ headed (now (out .entry)) at language s g ⌝ }
 {
@@ -77,7 +75,7 @@ pub fn put_header(out: &mut [u8], at: usize, language: u32, s: usize, g: usize)
 }
 
 // n glyphs from the k-th on, two bytes each.
-pub fn put_glyphs(out: &mut [u8], at: usize, glyphs: &[u16], k: usize, n: usize)
+fn put_glyphs(out: &mut [u8], at: usize, glyphs: &[u16], k: usize, n: usize)
     requires { ⌜ (at + 2 * n ≤ length (now out)) × (n ≤ length (now glyphs) - k) ⌝ }
     ensures { λ _. ⌜ now (out .exit) ≡ sets (now (out .entry)) at (encs 2 (take n (drop k (now (glyphs .entry))))) ⌝ }
 {
@@ -90,18 +88,18 @@ pub fn put_glyphs(out: &mut [u8], at: usize, glyphs: &[u16], k: usize, n: usize)
 }
 
 // Where the next segment's numbers and glyphs go, and which pair is its first.
-pub struct RangeWriter {
-    pub ends: usize,
-    pub starts: usize,
-    pub deltas: usize,
-    pub offsets: usize,
-    pub array: usize,
-    pub next: usize,
+struct RangeWriter {
+    ends: usize,
+    starts: usize,
+    deltas: usize,
+    offsets: usize,
+    array: usize,
+    next: usize,
 }
 
 impl RangeWriter {
     // The columns of a subtable of s segments at a place.
-    pub fn new(at: usize, s: usize) -> Self
+    fn new(at: usize, s: usize) -> Self
         requires { ⌜ (at < 9223372036854775808) × (s < 65536) ⌝ }
         ensures { λ r. ⌜ r ≡ placesAt at s ⌝ }
     {
@@ -115,7 +113,7 @@ impl RangeWriter {
         }
     }
 
-    pub fn offset_of(self, x: Segment) -> u32
+    fn offset_of(self, x: Segment) -> u32
         requires { ⌜ (self .offsets ≤ self .array) × (self .array < self .offsets + 65536) ⌝ }
         ensures { λ r. ⌜ r ≡ offsetAt self x ⌝ }
     {
@@ -125,7 +123,7 @@ impl RangeWriter {
         0
     }
 
-    pub fn start_end_delta(self, out: &mut [u8], x: Segment)
+    fn start_end_delta(self, out: &mut [u8], x: Segment)
         requires { ⌜ (self .ends + 2 ≤ length (now out)) × ((self .starts + 2 ≤ length (now out)) × (self .deltas + 2 ≤ length (now out))) ⌝ }
         ensures { λ _. ⌜ now (out .exit) ≡ putThree (now (out .entry)) self x ⌝ }
     {
@@ -134,7 +132,7 @@ impl RangeWriter {
         number::put_u16(out, self.deltas, x.delta as u32);
     }
 
-    pub fn rangeoffset_glyph_ids(self, out: &mut [u8], glyphs: &[u16], x: Segment)
+    fn rangeoffset_glyph_ids(self, out: &mut [u8], glyphs: &[u16], x: Segment)
         requires { ⌜ Room self (x ∷ []) (length (now glyphs)) (length (now out)) ⌝ }
         ensures { λ _. ⌜ now (out .exit) ≡ putGlyphs (now (glyphs .entry)) (now (out .entry)) self x ⌝ }
     {
@@ -145,7 +143,7 @@ impl RangeWriter {
     }
 
     // The places behind a segment's.
-    pub fn after(self, x: Segment) -> Self
+    fn after(self, x: Segment) -> Self
         requires { ⌜ Small self ⌝ }
         ensures { λ r. ⌜ r ≡ nextOf self x ⌝ }
     {
@@ -159,7 +157,7 @@ impl RangeWriter {
         }
     }
 
-    pub fn write_one_range(self, out: &mut [u8], glyphs: &[u16], x: Segment) -> Self
+    fn write_one_range(self, out: &mut [u8], glyphs: &[u16], x: Segment) -> Self
         requires { ⌜ Room self (x ∷ []) (length (now glyphs)) (length (now out)) ⌝ }
         ensures { λ r. ⌜ (r ≡ nextOf self x) × (now (out .exit) ≡ putOne (now (glyphs .entry)) (now (out .entry)) self x) ⌝ }
     {
@@ -168,7 +166,7 @@ impl RangeWriter {
         self.after(x)
     }
 
-    pub fn absorb(self, out: &mut [u8], glyphs: &[u16], c: Committed) -> Self
+    fn absorb(self, out: &mut [u8], glyphs: &[u16], c: Committed) -> Self
         requires { ⌜ Room self (toList c) (length (now glyphs)) (length (now out)) ⌝ }
         ensures { λ r. ⌜ (r ≡ movedBy self (toList c)) × (now (out .exit) ≡ putAll (now (glyphs .entry)) (now (out .entry)) self (toList c)) ⌝ }
     {
@@ -183,7 +181,7 @@ impl RangeWriter {
     }
 
     // The closing segment, if there is one.
-    pub fn close(self, out: &mut [u8], glyphs: &[u16], close: bool)
+    fn close(self, out: &mut [u8], glyphs: &[u16], close: bool)
         requires { ⌜ Room self (closing close) (length (now glyphs)) (length (now out)) ⌝ }
         ensures { λ _. ⌜ now (out .exit) ≡ putAll (now (glyphs .entry)) (now (out .entry)) self (closing close) ⌝ }
     {
@@ -202,7 +200,7 @@ impl RangeWriter {
 }
 
 // The columns and the glyph array.
-pub fn write_columns(out: &mut [u8], codes: &[u32], glyphs: &[u16], at: RangeWriter)
+fn write_columns(out: &mut [u8], codes: &[u32], glyphs: &[u16], at: RangeWriter)
     requires { ⌜ Columns (now codes) (now glyphs) ⌝ }
     requires { ⌜ Apart at (length (segments (pairs (now codes) (now glyphs)))) 0 ⌝ }
     requires { ⌜ Room at (segments (pairs (now codes) (now glyphs))) (length (now glyphs)) (length (now out)) ⌝ }

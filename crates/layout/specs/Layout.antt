@@ -1,4 +1,4 @@
--- What the functions ask for that go by a plan.
+-- Inner: what the functions of this crate hand to each other; no promise names it.
 use Prim.Native.Nat.{ℕ, _<_}
 use mathlib.Core.List.{List}
 use Rattle.records.specs.Records.{Placed}

@@ -31,7 +31,8 @@ use Rattle.format4.specs.Format4.{format4}
 use Rattle.format4.specs.Size.{sizeOf as sizeOf4, lengthOf as lengthOf4, Columns as Columns4}
 use Rattle.format12.specs.declared.Size.{Size as Size12}
 use Rattle.format12.specs.Format12.{format12, groups, sizeOf as sizeOf12, Columns as Columns12, Room as Room12}
-use Rattle.making.specs.Making.{Pairs, Leads, Front, Fits4}
+use Rattle.making.specs.Making.{Pairs, Leads, Fits4}
+use Rattle.making.specs.Front.{Front}
 
 -- ---- a part of a column
 

@@ -1,9 +1,10 @@
--- What a function asks for that makes a format 4 or 12 subtable of the pairs that a record's subtable maps.
+-- What is asked for to make a format 4 or 12 subtable of the pairs that a record's subtable maps.
 use Prim.Native.Nat.{ℕ, _+_, _≤_}
 use mathlib.Core.Path.{_≡_}
 use mathlib.Core.List.{List}
 use lib.ListN.{length}
 use Rattle.laws.specs.Lists.{Pair}
+use Rattle.number.specs.Limits.{pairsMax}
 use Rattle.source.specs.Kind.{formatOf}
 use Rattle.records.specs.Records.{leadsTo, Placed}
 use Rattle.listing.specs.Listing.{Beside, Columns}
@@ -16,16 +17,11 @@ pub record Pairs (xs : List ℕ) (k n : ℕ) (codes glyphs flags tocodes toglyph
   pub placed : Placed xs k
   pub beside : Beside n codes flags
   pub columns : Columns codes glyphs tocodes toglyphs
-  pub few : length codes ≤ 65535
+  pub few : length codes ≤ pairsMax
 
 -- the record leads to a readable subtable of that format
 pub record Leads (xs : List ℕ) (k format : ℕ) : Type 0 where
   pub is : formatOf (leadsTo xs k) ≡ format
-
--- the first m entries of two columns are there
-pub record Front (m : ℕ) (cs gs : List ℕ) : Type 0 where
-  pub codes : m ≤ length cs
-  pub glyphs : m ≤ length gs
 
 -- the pairs make a format 4 subtable that is neither empty nor too long, and it fits into l bytes at a place
 pub record Fits4 (ps : List Pair) (at l : ℕ) : Type 0 where

@@ -10,7 +10,8 @@ ghost use Rattle.format4.specs.declared.Size.the-variants.{Fits};
 ghost use Rattle.format4.specs.Format4.{format4};
 ghost use Rattle.format4.specs.Size.{sizeOf as sizeOf4, lengthOf as lengthOf4, Columns as Columns4};
 ghost use Rattle.format12.specs.Format12.{format12, sizeOf as sizeOf12, Columns as Columns12, Room as Room12};
-ghost use Rattle.making.specs.Making.{Pairs, Leads, Front, Fits4};
+ghost use Rattle.making.specs.Making.{Pairs, Leads, Fits4};
+ghost use Rattle.making.specs.Front.{Front};
 
 // The size of the format 4 subtable of the first m pairs.
 fn size4_of(codes: &[u32], glyphs: &[u16], m: usize) -> format4::Size

@@ -19,8 +19,8 @@ use Rattle.laws.proofs.PiecesFirstLaws.{concat-snoc, pieces-first}
 use Rattle.laws.proofs.EachLaws.{each-append, each-of, each-map, each-mapped, each-concat}
 use Rattle.laws.proofs.LinkedLaws.{filled-left, linked-filled, pieces-linked, linked-parts}
 use Rattle.ranges.specs.declared.Segment.{Segment}
-use Rattle.ranges.specs.Steps.{closing, entries}
-use Rattle.ranges.specs.Cutting.{nextCode, nextGlyph, rangesOf, runsOf, reaches, Cut, cutOf, present, commitRun, cutRuns, cutRange, cuts, firstCode, lastCode, segmentOf, lastEnd, segments, glyphs, arrayOf, glyphArray, arrayFrom}
+use Rattle.ranges.specs.Steps.{entries, arrayFrom}
+use Rattle.ranges.specs.Cutting.{nextCode, nextGlyph, rangesOf, runsOf, reachesCost, Cut, cutOf, present, commitRun, cutRuns, cutRange, cuts, firstCode, lastCode, segmentOf, lastEnd, segments, glyphs, arrayOf, glyphArray, closing}
 
 -- ---- adjacent code points
 
@@ -47,7 +47,7 @@ parts cs = map (λ (x : Cut). x .pairs) cs
 commit-pairs : (cost : ℕ) (earlier : List (List Pair)) (run : List Pair) → concat (parts (commitRun cost earlier run)) ≡ concat earlier ++ run
 unfolding commitRun concat
 commit-pairs cost earlier run =
-    by-pick (λ (cs : List Cut). concat (parts cs) ≡ concat earlier ++ run) (both (present earlier) (both (leb 2 (length run)) (reaches cost run)))
+    by-pick (λ (cs : List Cut). concat (parts cs) ≡ concat earlier ++ run) (both (present earlier) (both (leb 2 (length run)) (reachesCost cost run)))
     (cutOf earlier ∷ cutOf (run ∷ []) ∷ []) (cutOf (earlier ++ (run ∷ [])) ∷ [])
     (λ _. rw (append-nil run, append-nil run))
     (λ _. append-nil (concat (earlier ++ (run ∷ []))) ∙ concat-snoc earlier run)
@@ -60,7 +60,7 @@ runs-pairs : (cost : ℕ) (earlier : List (List Pair)) (run : List Pair) (runs :
 unfolding cutRuns concat
 runs-pairs cost earlier run [] = commit-pairs 8 earlier run ∙ rw (append-nil run)
 runs-pairs cost earlier run (next ∷ runs) =
-    by-pick (λ (cs : List Cut). concat (parts cs) ≡ concat earlier ++ concat (run ∷ next ∷ runs)) (reaches cost run)
+    by-pick (λ (cs : List Cut). concat (parts cs) ≡ concat earlier ++ concat (run ∷ next ∷ runs)) (reachesCost cost run)
     (commitRun cost earlier run ++ cutRuns 16 [] (next ∷ runs)) (cutRuns 16 (earlier ++ (run ∷ [])) (next ∷ runs))
     (λ _. rw (parts-append (commitRun cost earlier run) (cutRuns 16 [] (next ∷ runs)), commit-pairs cost earlier run, runs-pairs 16 [] next runs)
     (append-assoc (concat earlier) run (concat (next ∷ runs))))
@@ -95,7 +95,7 @@ module _ (Good : List Pair → Type 0) (P : Cut → Type 0) (f : (runs : List (L
   commit-each : (cost : ℕ) (earlier : List (List Pair)) (run : List Pair) → Each Good earlier → Good run → Each P (commitRun cost earlier run)
   unfolding commitRun
   commit-each cost earlier run h g =
-      by-pick (Each P) (both (present earlier) (both (leb 2 (length run)) (reaches cost run))) (cutOf earlier ∷ cutOf (run ∷ []) ∷ []) (cutOf (earlier ++ (run ∷ [])) ∷ [])
+      by-pick (Each P) (both (present earlier) (both (leb 2 (length run)) (reachesCost cost run))) (cutOf earlier ∷ cutOf (run ∷ []) ∷ []) (cutOf (earlier ++ (run ∷ [])) ∷ [])
       (λ e. (f earlier (both-left (present earlier) _ e) h, (f (run ∷ []) refl (g, tt), tt)))
       (λ _. (f (earlier ++ (run ∷ [])) (present-snoc earlier run) (each-append Good earlier (run ∷ []) h (g, tt)), tt))
 
@@ -104,7 +104,7 @@ module _ (Good : List Pair → Type 0) (P : Cut → Type 0) (f : (runs : List (L
   runs-each cost earlier [] h g = tt
   runs-each cost earlier (run ∷ []) h g = commit-each 8 earlier run h (g .0)
   runs-each cost earlier (run ∷ next ∷ runs) h g =
-      by-pick (Each P) (reaches cost run) (commitRun cost earlier run ++ cutRuns 16 [] (next ∷ runs)) (cutRuns 16 (earlier ++ (run ∷ [])) (next ∷ runs))
+      by-pick (Each P) (reachesCost cost run) (commitRun cost earlier run ++ cutRuns 16 [] (next ∷ runs)) (cutRuns 16 (earlier ++ (run ∷ [])) (next ∷ runs))
       (λ _. each-append P (commitRun cost earlier run) (cutRuns 16 [] (next ∷ runs)) (commit-each cost earlier run h (g .0)) (runs-each 16 [] (next ∷ runs) tt (g .1)))
       (λ _. runs-each 16 (earlier ++ (run ∷ [])) (next ∷ runs) (each-append Good earlier (run ∷ []) h (g .0, tt)) (g .1))
 

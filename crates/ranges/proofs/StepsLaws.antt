@@ -14,7 +14,8 @@ use Rattle.ranges.specs.declared.RangeState.{RangeState}
 use Rattle.ranges.specs.declared.Segment.{Segment}
 use Rattle.ranges.specs.declared.Absorbed.{Absorbed}
 use Rattle.ranges.specs.declared.Finished.{Finished}
-use Rattle.ranges.specs.Steps.{costOf, cutFrom, step, finish, toList, closing, entries, entriesOf}
+use Rattle.ranges.specs.Steps.{costOf, cutFrom, step, finish, toList, entries}
+use Rattle.ranges.specs.Cutting.{closing, entriesOf}
 
 pick-small : (t : Bool) → (1 ≤ pick t 16 8) × (pick t 16 8 ≤ 16)
 pick-small true = (lit≤ tt, lit≤ tt)

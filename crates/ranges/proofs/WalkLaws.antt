@@ -17,8 +17,8 @@ use Rattle.ranges.specs.declared.Segment.{Segment}
 use Rattle.ranges.specs.declared.RangeState.{RangeState}
 use Rattle.ranges.specs.declared.Absorbed.{Absorbed}
 use Rattle.ranges.specs.declared.Committed.the-variants.{None, One, Two}
-use Rattle.ranges.specs.Steps.{deltaOf, seg, idle, begun, grown, turned, absorbed, pays, commit, step, finish, toList, closing, cutFrom, entries}
-use Rattle.ranges.specs.Cutting.{nextCode, nextGlyph, rangesOf, runsOf, reaches, Cut, loneDelta, cutOf, commitRun, cutRuns, cutRange, cuts, lastCode, segmentOf, segments, glyphs, glyphArray, arrayFrom}
+use Rattle.ranges.specs.Steps.{idle, begun, grown, turned, absorbed, pays, commit, step, finish, toList, cutFrom, entries, arrayFrom}
+use Rattle.ranges.specs.Cutting.{nextCode, nextGlyph, rangesOf, runsOf, reachesCost, Cut, loneDelta, cutOf, commitRun, cutRuns, cutRange, cuts, lastCode, segmentOf, segments, glyphs, glyphArray, pairDelta, seg, closing}
 use Rattle.ranges.proofs.CuttingLaws.{last-append, segments-closed, array-from, length-array}
 
 -- ---- a run as the walk has gathered it: from x to l
@@ -34,7 +34,7 @@ length-joined {x} (more {y = y} e j) = let f = length-joined j in let g = eqb-tr
 -- the state of a walk whose running run goes from x to l
 abbrev at : Bool → ℕ → ℕ → ℕ → Pair → Pair → RangeState
 at later start prev prevdelta x l =
-    record { running = true; later = later; start = start; prev = prev; prevdelta = prevdelta; run = x .0; delta = deltaOf (x .0) (x .1); end = l .0; glyph = l .1 }
+    record { running = true; later = later; start = start; prev = prev; prevdelta = prevdelta; run = x .0; delta = pairDelta (x .0) (x .1); end = l .0; glyph = l .1 }
 
 -- the earlier runs that are not committed lie from start to just before b
 record Before (start prev prevdelta : ℕ) (earlier : List (List Pair)) (b : ℕ) : Type 0 where
@@ -63,7 +63,7 @@ module _ (later : Bool) (start prev prevdelta : ℕ) {x l : Pair} {xs : List Pai
   abbrev run : List Pair
   run = x ∷ xs
 
-  pays-is : (cost : ℕ) → pays s cost ≡ reaches cost run
+  pays-is : (cost : ℕ) → pays s cost ≡ reachesCost cost run
   unfolding pays
   pays-is cost =
       let n = length-joined j in
@@ -73,7 +73,7 @@ module _ (later : Bool) (start prev prevdelta : ℕ) {x l : Pair} {xs : List Pai
   two-is : ltb (x .0) (l .0) ≡ leb 2 (length run)
   two-is = let n = length-joined j in leb-same (suc (x .0)) (l .0) 2 (suc (length xs)) (λ h. omega arith) (λ h. omega arith)
 
-  lone-is : segmentOf (cutOf (run ∷ [])) ≡ seg (x .0) (l .0) (deltaOf (x .0) (x .1))
+  lone-is : segmentOf (cutOf (run ∷ [])) ≡ seg (x .0) (l .0) (pairDelta (x .0) (x .1))
   unfolding concat
   lone-is = rw (append-nil xs, last-joined j)
 
@@ -83,7 +83,7 @@ module _ (later : Bool) (start prev prevdelta : ℕ) {x l : Pair} {xs : List Pai
   commit-is cost [] b = rw (eq-eqb start (x .0) b, lone-is, b)
   commit-is cost (e ∷ es) b =
       rw (ne-eqb start (x .0) (λ z. let h = b .below in omega arith), lt-ltb start (x .0) (b .below), two-is, pays-is cost)
-      (go (both (leb 2 (length run)) (reaches cost run)))
+      (go (both (leb 2 (length run)) (reachesCost cost run)))
     where
       part-is : segmentOf (cutOf (e ∷ es)) ≡ seg start (x .0 - 1) (pick (eqb start prev) prevdelta 0)
       part-is =
@@ -94,14 +94,14 @@ module _ (later : Bool) (start prev prevdelta : ℕ) {x l : Pair} {xs : List Pai
       whole-is = rw (concat-snoc (e ∷ es) run, lone-snoc e es run, b .is, last-append (b .head ∷ b .tail) (x ∷ xs) tt, last-joined j, b .first)
 
       go : (t : Bool)
-          → toList (pick t (Two (seg start (x .0 - 1) (pick (eqb start prev) prevdelta 0)) (seg (x .0) (l .0) (deltaOf (x .0) (x .1)))) (One (seg start (l .0) 0)))
+          → toList (pick t (Two (seg start (x .0 - 1) (pick (eqb start prev) prevdelta 0)) (seg (x .0) (l .0) (pairDelta (x .0) (x .1)))) (One (seg start (l .0) 0)))
           ≡ map segmentOf (pick t (cutOf (e ∷ es) ∷ cutOf (run ∷ []) ∷ []) (cutOf ((e ∷ es) ++ (run ∷ [])) ∷ []))
       go true = rw (part-is, lone-is)
       go false = rw whole-is
 
 -- the earlier runs when the running one joins them and p follows
 earlier-snoc : (start prev prevdelta : ℕ) (earlier : List (List Pair)) {x l : Pair} {xs : List Pair} (p : Pair) → Joined nextCode x xs l → p .0 ≡ l .0 + 1
-    → Earlier start prev prevdelta earlier (x .0) → Earlier start (x .0) (deltaOf (x .0) (x .1)) (earlier ++ ((x ∷ xs) ∷ [])) (p .0)
+    → Earlier start prev prevdelta earlier (x .0) → Earlier start (x .0) (pairDelta (x .0) (x .1)) (earlier ++ ((x ∷ xs) ∷ [])) (p .0)
 unfolding concat
 earlier-snoc start prev prevdelta [] {x} {l} {xs} p j e b =
     let n = length-joined j in
@@ -153,14 +153,14 @@ module _ (cost : ℕ) (earlier : List (List Pair)) {x l : Pair} {xs : List Pair}
   -- an adjacent one whose glyph is not ends the run
   cuts-turn : (p : Pair) (ps : List Pair) → nextCode l p ≡ true → nextGlyph l p ≡ false
       → cutsFrom cost earlier (rangesOf ((x ∷ xs) ++ (p ∷ ps)))
-      ≡ pick (reaches cost (x ∷ xs)) (commitRun cost earlier (x ∷ xs) ++ cutsFrom 16 [] (rangesOf (p ∷ ps))) (cutsFrom 16 (earlier ++ ((x ∷ xs) ∷ [])) (rangesOf (p ∷ ps)))
+      ≡ pick (reachesCost cost (x ∷ xs)) (commitRun cost earlier (x ∷ xs) ++ cutsFrom 16 [] (rangesOf (p ∷ ps))) (cutsFrom 16 (earlier ++ ((x ∷ xs) ∷ [])) (rangesOf (p ∷ ps)))
   unfolding cutRuns
   cuts-turn p ps e f =
       let a = pieces-first nextCode p ps in
       let b = pieces-first nextGlyph p (a .rest) in
       let runs = (p ∷ b .rest) ∷ b .others in
       rw (pieces-on nextCode p ps jc e, a .is, pieces-joined nextGlyph p (a .rest) jg f, b .is)
-      (go (reaches cost (x ∷ xs)) (commitRun cost earlier (x ∷ xs)) (cutRuns 16 [] runs) (cutRuns 16 (earlier ++ ((x ∷ xs) ∷ [])) runs) (concat (map cutRange (a .others))))
+      (go (reachesCost cost (x ∷ xs)) (commitRun cost earlier (x ∷ xs)) (cutRuns 16 [] runs) (cutRuns 16 (earlier ++ ((x ∷ xs) ∷ [])) runs) (concat (map cutRange (a .others))))
     where
       go : (t : Bool) (a b c d : List Cut) → pick t (a ++ b) c ++ d ≡ pick t (a ++ (b ++ d)) (c ++ d)
       go true a b c d = append-assoc a b d
@@ -201,9 +201,9 @@ module _ (p : Pair) (ps : List Pair) (w : Walks ps) where
       (λ f. by-pick P (pays s cost) take wait
       (λ t. rw (cuts-turn cost earlier jc jg p ps e f, ← pays-is later start prev prevdelta jc cost, t)
       (commit-then (commitRun cost earlier (x ∷ xs)) (cutsFrom 16 [] (rangesOf (p ∷ ps))) _ _ ends
-      (commit-is later start prev prevdelta jc cost earlier b) (w true (p .0) (x .0) (deltaOf (x .0) (x .1)) [] p p [] lone lone refl)))
+      (commit-is later start prev prevdelta jc cost earlier b) (w true (p .0) (x .0) (pairDelta (x .0) (x .1)) [] p p [] lone lone refl)))
       (λ t. rw (cuts-turn cost earlier jc jg p ps e f, ← pays-is later start prev prevdelta jc cost, t)
-      (w true start (x .0) (deltaOf (x .0) (x .1)) (earlier ++ ((x ∷ xs) ∷ [])) p p [] lone lone
+      (w true start (x .0) (pairDelta (x .0) (x .1)) (earlier ++ ((x ∷ xs) ∷ [])) p p [] lone lone
       (earlier-snoc start prev prevdelta earlier p jc (eqb-true (p .0) (l .0 + 1) e) b)))))
       (λ e. rw (cuts-jump cost earlier jc jg p ps e)
       (commit-then (commitRun 8 earlier (x ∷ xs)) (cutsFrom 8 [] (rangesOf (p ∷ ps))) _ _ ends

@@ -1,15 +1,14 @@
--- The cutting of a list of pairs into the segments of a format 4 table, as 01 tells it ("Format 4"): ranges, the runs inside
--- them, and which runs are committed together. Steps.antt goes pair by pair, as the code does; that it gives the same is walk-cuts.
-use Prim.Native.Nat.{ℕ, _+_, _-_, _*_}
+-- The cutting of a list of pairs into the segments of a format 4 subtable, as docs/01-rules.md tells it ("Format 4"): ranges, the
+-- runs inside them, and which runs are committed together. The code goes pair by pair; that it gives the same is walk-cuts.
+use Prim.Native.Nat.{ℕ, _+_, _-_, _*_, _%_}
 use mathlib.Core.List.{List, [], _∷_, _++_, map}
 use mathlib.Core.Bool.{Bool, true, false, not}
 use lib.Dec.{leb, eqb}
-use lib.ListN.{length, take, drop}
+use lib.ListN.{length}
 use Rattle.laws.specs.Choice.{pick, both}
 use Rattle.laws.specs.Lists.{Pair}
 use Rattle.laws.specs.Pieces.{pieces, concat}
 use Rattle.ranges.specs.declared.Segment.{Segment}
-use Rattle.ranges.specs.Steps.{deltaOf, seg, closing}
 
 -- ---- ranges and runs
 
@@ -19,17 +18,17 @@ nextCode p q = eqb (q .0) (p .0 + 1)
 abbrev pub nextGlyph : Pair → Pair → Bool
 nextGlyph p q = eqb (q .1) (p .1 + 1)
 
--- "Adjacent code points form a range; ..
+-- code points that follow one another
 abbrev pub rangesOf : List Pair → List (List Pair)
 rangesOf ps = pieces nextCode ps
 
--- .. inside it adjacent glyphs form runs."
+-- glyphs that follow one another, inside a range
 abbrev pub runsOf : List Pair → List (List Pair)
 runsOf range = pieces nextGlyph range
 
--- "2·length is at least" the cost
-abbrev pub reaches : ℕ → List Pair → Bool
-reaches cost run = leb cost (2 * length run)
+-- twice the run's length reaches the cost
+abbrev pub reachesCost : ℕ → List Pair → Bool
+reachesCost cost run = leb cost (2 * length run)
 
 -- ---- what a range is cut into
 
@@ -38,12 +37,16 @@ pub record Cut : Type 0 where
   pub pairs : List Pair
   pub delta : ℕ
 
--- "Delta = glyph−code point, mod 65,536": the same for every pair of a run
+-- the delta of a code point and its glyph
+abbrev pub pairDelta : ℕ → ℕ → ℕ
+pairDelta c g = (g + 65536 - c) % 65536
+
+-- that of a run's first pair is that of all its pairs
 abbrev pub runDelta : List Pair → ℕ
 runDelta [] = 0
-runDelta (p ∷ run) = deltaOf (p .0) (p .1)
+runDelta (p ∷ run) = pairDelta (p .0) (p .1)
 
--- "A lone run gets its delta, anything else 0."
+-- one run gives its delta, several give 0
 abbrev pub loneDelta : List (List Pair) → ℕ
 loneDelta [] = 0
 loneDelta (run ∷ []) = runDelta run
@@ -58,22 +61,22 @@ abbrev pub present : List (List Pair) → Bool
 present [] = false
 present (run ∷ runs) = true
 
--- "Commit: if earlier uncommitted runs precede a run of two or more whose 2·length reaches the cost, write two segments: the
--- earlier part (with the previous run's delta if it is that one run, else 0), and the run."
+-- To commit: two segments, the earlier runs and the run, if there are earlier ones and the run has two pairs or more and reaches the
+-- cost; else one.
 unfoldable pub commitRun : ℕ → List (List Pair) → List Pair → List Cut
 commitRun cost earlier run =
-    pick (both (present earlier) (both (leb 2 (length run)) (reaches cost run)))
+    pick (both (present earlier) (both (leb 2 (length run)) (reachesCost cost run)))
     (cutOf earlier ∷ cutOf (run ∷ []) ∷ [])
     (cutOf (earlier ++ (run ∷ [])) ∷ [])
 
--- What is left of a range: the earlier runs are not committed yet, and the cost is that of the next run.
--- "A range's end always commits, at cost 8." Where it goes on, a run "is committed if 2·length is at least 8 for the range's first
--- run, 16 for every later one"; else it is one of the earlier runs for the next.
+-- What is left of a range: the earlier runs are not committed yet, and the cost is that of the next run, 8 for the range's first and
+-- 16 for each later one. The end of the range commits in any case, at cost 8; where it goes on, a run that does not reach the cost
+-- is one of the earlier runs for the next.
 unfoldable pub cutRuns : ℕ → List (List Pair) → List (List Pair) → List Cut
 cutRuns cost earlier [] = []
 cutRuns cost earlier (run ∷ []) = commitRun 8 earlier run
 cutRuns cost earlier (run ∷ next ∷ runs) =
-    pick (reaches cost run)
+    pick (reachesCost cost run)
     (commitRun cost earlier run ++ cutRuns 16 [] (next ∷ runs))
     (cutRuns 16 (earlier ++ (run ∷ [])) (next ∷ runs))
 
@@ -84,6 +87,9 @@ unfoldable pub cuts : List Pair → List Cut
 cuts ps = concat (map cutRange (rangesOf ps))
 
 -- ---- segments
+
+abbrev pub seg : ℕ → ℕ → ℕ → Segment
+seg a e d = record { start = a; end = e; delta = d }
 
 abbrev pub firstCode : List Pair → ℕ
 firstCode [] = 0
@@ -103,7 +109,11 @@ lastEnd [] = 0
 lastEnd (x ∷ []) = x .end
 lastEnd (x ∷ y ∷ ss) = lastEnd (y ∷ ss)
 
--- "A last segment 0xFFFF..0xFFFF, delta 1, follows unless the last end is 0xFFFF."
+abbrev pub closing : Bool → List Segment
+closing true = seg 65535 65535 1 ∷ []
+closing false = []
+
+-- the closing segment follows unless the last end is 0xFFFF already
 abbrev pub closed : List Segment → List Segment
 closed ss = ss ++ closing (not (eqb (lastEnd ss) 65535))
 
@@ -116,7 +126,7 @@ segments ps = closed (map segmentOf (cuts ps))
 abbrev pub glyphs : List Pair → List ℕ
 glyphs ps = map (λ (p : Pair). p .1) ps
 
--- "Delta 0 means glyph array": the glyphs of the code points of a segment of delta 0
+-- the glyphs of a segment's code points, if it is of delta 0
 abbrev pub arrayOf : Cut → List ℕ
 arrayOf x = pick (eqb (x .delta) 0) (glyphs (x .pairs)) []
 
@@ -124,9 +134,9 @@ unfoldable pub glyphArray : List Pair → List ℕ
 unfolding cuts
 glyphArray ps = concat (map arrayOf (cuts ps))
 
--- the glyph array found segment by segment: each takes the glyphs of its code points off those that are listed
-unfoldable pub arrayFrom : List ℕ → List Segment → List ℕ
-arrayFrom gs [] = []
-arrayFrom gs (x ∷ xs) =
-    let n = x .end + 1 - x .start in
-    pick (eqb (x .delta) 0) (take n gs ++ arrayFrom (drop n gs) xs) (arrayFrom (drop n gs) xs)
+-- how many code points a segment has, and how many entries of the glyph array
+abbrev pub points : Segment → ℕ
+points x = x .end + 1 - x .start
+
+abbrev pub entriesOf : Segment → ℕ
+entriesOf x = pick (eqb (x .delta) 0) (points x) 0

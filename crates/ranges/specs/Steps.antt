@@ -1,8 +1,10 @@
--- What each method of the range state does, and what a walk with it makes of a list of pairs (01, "Format 4").
-use Prim.Native.Nat.{ℕ, zero, suc, _+_, _-_, _*_, _%_}
+-- Inner: what the functions of this crate hand to each other and to those that walk with a range state; no promise of a size or of
+-- bytes names it. That a walk cuts as Cutting.antt says is walk-cuts.
+use Prim.Native.Nat.{ℕ, _+_, _-_, _*_}
 use mathlib.Core.List.{List, [], _∷_, _++_}
 use mathlib.Core.Bool.{Bool, true, false, not}
 use lib.Dec.{ltb, leb, eqb}
+use lib.ListN.{take, drop}
 use Rattle.laws.specs.Choice.{pick, both}
 use Rattle.laws.specs.Lists.{Pair}
 use Rattle.ranges.specs.declared.Segment.{Segment}
@@ -11,13 +13,7 @@ use Rattle.ranges.specs.declared.Committed.the-variants.{None, One, Two}
 use Rattle.ranges.specs.declared.RangeState.{RangeState}
 use Rattle.ranges.specs.declared.Absorbed.{Absorbed}
 use Rattle.ranges.specs.declared.Finished.{Finished}
-
--- "Delta = glyph − code point, mod 65,536"
-abbrev pub deltaOf : ℕ → ℕ → ℕ
-deltaOf c g = (g + 65536 - c) % 65536
-
-abbrev pub seg : ℕ → ℕ → ℕ → Segment
-seg a e d = record { start = a; end = e; delta = d }
+use Rattle.ranges.specs.Cutting.{pairDelta, seg, closing, points, entriesOf}
 
 -- no range is running
 abbrev pub idle : RangeState
@@ -25,7 +21,7 @@ idle = record { running = false; later = false; start = 0; prev = 0; prevdelta =
 
 -- a range of one code point, its first run
 abbrev pub begun : ℕ → ℕ → RangeState
-begun c g = record { running = true; later = false; start = c; prev = c; prevdelta = 0; run = c; delta = deltaOf c g; end = c; glyph = g }
+begun c g = record { running = true; later = false; start = c; prev = c; prevdelta = 0; run = c; delta = pairDelta c g; end = c; glyph = g }
 
 -- the run goes on with c
 abbrev pub grown : RangeState → ℕ → ℕ → RangeState
@@ -33,13 +29,13 @@ grown s c g = record { running = s .running; later = s .later; start = s .start;
 
 -- the range goes on with a new run at c; what is not committed starts at a
 abbrev pub turned : RangeState → ℕ → ℕ → ℕ → RangeState
-turned s a c g = record { running = true; later = true; start = a; prev = s .run; prevdelta = s .delta; run = c; delta = deltaOf c g; end = c; glyph = g }
+turned s a c g = record { running = true; later = true; start = a; prev = s .run; prevdelta = s .delta; run = c; delta = pairDelta c g; end = c; glyph = g }
 
--- "8 for the range's first run, 16 for every later one"
+-- what the running run has to reach while the range goes on
 abbrev pub costOf : RangeState → ℕ
 costOf s = pick (s .later) 16 8
 
--- "2·length is at least" the cost
+-- twice the running run's length reaches the cost
 unfoldable pub pays : RangeState → ℕ → Bool
 pays s cost = leb cost (2 * (s .end + 1 - s .run))
 
@@ -47,18 +43,18 @@ pays s cost = leb cost (2 * (s .end + 1 - s .run))
 abbrev pub whole : RangeState → ℕ → Segment
 whole s d = seg (s .start) (s .end) d
 
--- "if earlier uncommitted runs precede a run of two or more whose 2·length reaches the cost"
+-- two segments are written: the running run is not alone, has two pairs or more, and reaches the cost
 abbrev pub splits : RangeState → ℕ → Bool
 splits s cost = both (ltb (s .start) (s .run)) (both (ltb (s .run) (s .end)) (pays s cost))
 
--- ".. write two segments: the earlier part (with the previous run's delta if it is that one run, else 0), and the run"
+-- the part before the running run, with the delta of the run before if it is that run alone
 abbrev pub earlier : RangeState → Segment
 earlier s = seg (s .start) (s .run - 1) (pick (eqb (s .start) (s .prev)) (s .prevdelta) 0)
 
 abbrev pub theRun : RangeState → Segment
 theRun s = seg (s .run) (s .end) (s .delta)
 
--- "A lone run gets its delta, anything else 0."
+-- what is not committed yet, as one or two segments
 unfoldable pub commit : RangeState → ℕ → Committed
 commit s cost =
     pick (eqb (s .start) (s .run))
@@ -94,23 +90,17 @@ toList None = []
 toList (One a) = a ∷ []
 toList (Two a b) = a ∷ b ∷ []
 
--- "A last segment 0xFFFF..0xFFFF, delta 1, follows unless the last end is 0xFFFF."
-abbrev pub closing : Bool → List Segment
-closing true = seg 65535 65535 1 ∷ []
-closing false = []
-
 -- what is still to be written where the pairs before those listed led to the state s
 unfoldable pub cutFrom : RangeState → List Pair → List Segment
 cutFrom s [] = toList (finish s .out) ++ closing (finish s .close)
 cutFrom s (p ∷ ps) = toList (step s (p .0) (p .1) .out) ++ cutFrom (step s (p .0) (p .1) .state) ps
 
-abbrev pub segments : List Pair → List Segment
-segments ps = cutFrom idle ps
-
--- how many entries of the glyph array a segment has: "Delta 0 means glyph array"
-abbrev pub entriesOf : Segment → ℕ
-entriesOf s = pick (eqb (s .delta) 0) (s .end + 1 - s .start) 0
-
+-- how many entries of the glyph array segments have
 abbrev pub entries : List Segment → ℕ
 entries [] = 0
 entries (s ∷ ss) = entriesOf s + entries ss
+
+-- the glyph array found segment by segment: each takes the glyphs of its code points off those that are listed
+unfoldable pub arrayFrom : List ℕ → List Segment → List ℕ
+arrayFrom gs [] = []
+arrayFrom gs (x ∷ xs) = pick (eqb (x .delta) 0) (take (points x) gs ++ arrayFrom (drop (points x) gs) xs) (arrayFrom (drop (points x) gs) xs)

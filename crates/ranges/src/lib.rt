@@ -1,7 +1,8 @@
 // Cuts a rising list of (code point, glyph) pairs into the segments of a cmap format 4 table, one pair at a time.
 ghost use mathlib.Core.Path.{_≡_};
 ghost use Prim.Native.Nat.{_≤_};
-ghost use Rattle.ranges.specs.Steps.{idle, begun, grown, turned, deltaOf, costOf, pays, commit, step, finish};
+ghost use Rattle.ranges.specs.Steps.{idle, begun, grown, turned, costOf, pays, commit, step, finish};
+ghost use Rattle.ranges.specs.Cutting.{pairDelta};
 
 // Code points start to end. A delta of 0 says that the glyphs stand in the glyph array.
 pub struct Segment {
@@ -19,20 +20,20 @@ pub enum Committed {
 // The running range: what of it is not committed yet starts at start.
 pub struct RangeState {
     // A range is running.
-    pub running: bool,
+    running: bool,
     // Its running run is not its first.
-    pub later: bool,
+    later: bool,
     // The first code point that is not committed.
-    pub start: u16,
+    start: u16,
     // The start of the run before the running one.
-    pub prev: u16,
-    pub prevdelta: u16,
+    prev: u16,
+    prevdelta: u16,
     // The running run: its first code point and its delta.
-    pub run: u16,
-    pub delta: u16,
+    run: u16,
+    delta: u16,
     // The last code point and its glyph.
-    pub end: u16,
-    pub glyph: u16,
+    end: u16,
+    glyph: u16,
 }
 
 pub struct Absorbed {
@@ -46,16 +47,16 @@ pub struct Finished {
 }
 
 // glyph - code point, mod 65,536
-pub fn delta_of(c: u16, g: u16) -> u16
-    ensures { λ r. ⌜ r ≡ deltaOf c g ⌝ }
+fn delta_of(c: u16, g: u16) -> u16
+    ensures { λ r. ⌜ r ≡ pairDelta c g ⌝ }
 {
     ((g as u32 + 65536 - c as u32) % 65536) as u16
 }
 
 impl RangeState {
-    pub const FIRST_COST: u32 = 8;
+    const FIRST_COST: u32 = 8;
 
-    pub const LATER_COST: u32 = 16;
+    const LATER_COST: u32 = 16;
 
     pub fn new() -> Self
         ensures { λ r. ⌜ r ≡ idle ⌝ }
@@ -74,7 +75,7 @@ impl RangeState {
     }
 
     // A range that starts at c.
-    pub fn begin(c: u16, g: u16) -> Self
+    fn begin(c: u16, g: u16) -> Self
         ensures { λ r. ⌜ r ≡ begun c g ⌝ }
     {
         RangeState {
@@ -91,7 +92,7 @@ impl RangeState {
     }
 
     // The run goes on.
-    pub fn grow(mut self, c: u16, g: u16) -> Self
+    fn grow(mut self, c: u16, g: u16) -> Self
         ensures { λ r. ⌜ r ≡ grown self c g ⌝ }
     {
         self.end = c;
@@ -100,7 +101,7 @@ impl RangeState {
     }
 
     // The range goes on with a new run; start is the first code point that is not committed.
-    pub fn turn(self, start: u16, c: u16, g: u16) -> Self
+    fn turn(self, start: u16, c: u16, g: u16) -> Self
         ensures { λ r. ⌜ r ≡ turned self start c g ⌝ }
     {
         RangeState {
@@ -116,7 +117,7 @@ impl RangeState {
         }
     }
 
-    pub fn cost(self) -> u32
+    fn cost(self) -> u32
         ensures { λ r. ⌜ r ≡ costOf self ⌝ }
     {
         if self.later {
@@ -127,7 +128,7 @@ impl RangeState {
     }
 
     // Twice the running run's length reaches the cost.
-    pub fn run_pays(self, cost: u32) -> bool
+    fn run_pays(self, cost: u32) -> bool
         requires { ⌜ (1 ≤ cost) × (cost ≤ 16) ⌝ }
         ensures { λ r. ⌜ r ≡ pays self cost ⌝ }
     {
@@ -135,7 +136,7 @@ impl RangeState {
     }
 
     // What is not committed yet, as one or two segments.
-    pub fn commit_current_range(self, cost: u32) -> Committed
+    fn commit_current_range(self, cost: u32) -> Committed
         requires { ⌜ (1 ≤ cost) × (cost ≤ 16) ⌝ }
         ensures { λ r. ⌜ r ≡ commit self cost ⌝ }
     {

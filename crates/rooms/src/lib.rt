@@ -194,7 +194,7 @@ fn write_on_full_room(
     requires { ⌜ resultLength os ≤ length (now out) ⌝ }
     ensures { λ _. ⌜ now (out .exit) ≡ sets (now (out .entry)) 0 (resultOf (job (now (s .entry)) (now (codes .entry)) (now (glyphs .entry)) (now (kept .entry)) (now (map .entry)) (now (requested .entry))) os) ⌝ }
 {
-    writing::write_result(
+    writing::serialize_cmap(
         out,
         s,
         codes,
@@ -265,7 +265,7 @@ fn write_on_small_room(
     requires { ⌜ isSmall (now codes) (now kept) ≡ true ⌝ }
     ensures { λ _. ⌜ now (out .exit) ≡ sets (now (out .entry)) 0 (resultOf (job (now (s .entry)) (now (codes .entry)) (now (glyphs .entry)) (now (kept .entry)) (now (map .entry)) (now (requested .entry))) os) ⌝ }
 {
-    writing::write_result(
+    writing::serialize_cmap(
         out,
         s,
         codes,

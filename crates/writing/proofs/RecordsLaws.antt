@@ -18,7 +18,7 @@ use Rattle.plan.specs.declared.Outcome.{Outcome}
 use Rattle.plan.specs.declared.Outcome.the-variants.{NotRetained}
 use Rattle.result.specs.Result.{isWritten, makerOf, at, countFrom, offsetOf, recordBytes, recordsFrom}
 use Rattle.result.proofs.LengthLaws.{length-record}
-use Rattle.writing.specs.Writing.{sourced, Recorded, Laid}
+use Rattle.writing.specs.Parts.{sourced, Recorded, Laid}
 
 -- ---- a record's numbers
 

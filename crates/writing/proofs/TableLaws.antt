@@ -25,7 +25,7 @@ use Rattle.plan.specs.declared.Outcome.the-variants.{Made}
 use Rattle.plan.specs.Plan.{tableOf, by4, fresh, sizeOf}
 use Rattle.plan.proofs.FreshLaws.{leads4, readable14}
 use Rattle.made.proofs.MadeLaws.{not-made, made-length, table-is}
-use Rattle.writing.specs.Writing.{Room}
+use Rattle.writing.specs.Parts.{Room}
 
 sized4 : (ps : List Pair) (place n l : ℕ) (size : Size) → sizeOf4 ps ≡ size → by4 size ≡ Made n → place + n ≤ l → Fits4 ps place l
 sized4 ps place n l Empty q e h = not-made (Fits4 ps place l) (by4 Empty) n refl e

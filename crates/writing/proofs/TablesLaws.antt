@@ -15,7 +15,8 @@ use Rattle.plan.specs.Plan.{tableOf, isMade, sizeOf, Ready}
 use Rattle.result.specs.Result.{at, sizesFrom, tablesStart, tablesBelow, resultLength}
 use Rattle.result.proofs.CountLaws.{sizes-snoc}
 use Rattle.plan.proofs.OutcomeLaws.{unmade-size}
-use Rattle.writing.specs.Writing.{Room, Planned}
+use Rattle.writing.specs.Writing.{Planned}
+use Rattle.writing.specs.Parts.{Room}
 use Rattle.result.proofs.LengthLaws.{size-made}
 use Rattle.writing.proofs.PlannedLaws.{planned-again, ready-of, making-of, lengths}
 

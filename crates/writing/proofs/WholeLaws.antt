@@ -11,7 +11,8 @@ use Rattle.number.proofs.BigEndianLaws.{length-enc}
 use Rattle.listing.specs.Job.{Job, job}
 use Rattle.plan.specs.declared.Outcome.{Outcome}
 use Rattle.result.specs.Result.{written, tablesStart, recordsFrom, tablesBelow, resultOf, resultLength}
-use Rattle.writing.specs.Writing.{sourced, Laid, Planned}
+use Rattle.writing.specs.Writing.{Planned}
+use Rattle.writing.specs.Parts.{sourced, Laid}
 use Rattle.result.proofs.LengthLaws.{length-records}
 use Rattle.writing.proofs.PlannedLaws.{laid, planned-length}
 use Rattle.writing.proofs.RecordsLaws.{records-sourced}

@@ -10,7 +10,8 @@ ghost use Rattle.number.specs.BigEndian.{enc};
 ghost use Rattle.listing.specs.Job.{job};
 ghost use Rattle.plan.specs.Plan.{tableOf, Ready};
 ghost use Rattle.result.specs.Result.{tablesStart, offsetOf, recordBytes, recordsFrom, tablesBelow, resultOf, resultLength};
-ghost use Rattle.writing.specs.Writing.{sourced, Counts, Recorded, Laid, Room, Planned};
+ghost use Rattle.writing.specs.Writing.{Counts, Planned};
+ghost use Rattle.writing.specs.Parts.{sourced, Recorded, Laid, Room};
 
 // Where the table of record k stands, in a result of that many records.
 pub fn offset_of(os: [Outcome; 64], k: usize, count: usize) -> usize
@@ -39,7 +40,14 @@ fn put_numbers(out: &mut [u8], place: usize, platform: u32, encoding: u32, offse
 }
 
 // Writes record k, with the offset of the table that serves it.
-fn put_record(out: &mut [u8], place: usize, s: &[u8], os: [Outcome; 64], k: usize, count: usize)
+fn serialize_encoding_record(
+    out: &mut [u8],
+    place: usize,
+    s: &[u8],
+    os: [Outcome; 64],
+    k: usize,
+    count: usize,
+)
     requires { ⌜ Recorded (now s) os k count ⌝ }
     requires { ⌜ place + 8 ≤ length (now out) ⌝ }
     ensures { λ _. ⌜ now (out .exit) ≡ sets (now (out .entry)) place (recordBytes (sourced (now (s .entry))) os k) ⌝ }
@@ -51,7 +59,7 @@ fn put_record(out: &mut [u8], place: usize, s: &[u8], os: [Outcome; 64], k: usiz
 }
 
 // Writes the records behind the header.
-pub fn put_records(out: &mut [u8], s: &[u8], os: [Outcome; 64], count: usize)
+fn serialize_encoding_records(out: &mut [u8], s: &[u8], os: [Outcome; 64], count: usize)
     requires { ⌜ Laid (now s) os count ⌝ }
     requires { ⌜ 4 + 8 * count ≤ length (now out) ⌝ }
     ensures { λ _. ⌜ now (out .exit) ≡ sets (now (out .entry)) 4 (recordsFrom (sourced (now (s .entry))) os 64 0) ⌝ }
@@ -63,14 +71,14 @@ pub fn put_records(out: &mut [u8], s: &[u8], os: [Outcome; 64], count: usize)
         let o = os[k];
         k += 1;
         if layout::is_written(o) {
-            put_record(out, place, s, os, i, count);
+            serialize_encoding_record(out, place, s, os, i, count);
             place += 8;
         }
     }
 }
 
 // Writes the table that record k makes; the flags and the last two lists are work room.
-pub fn write_table(
+fn write_table(
     out: &mut [u8],
     place: usize,
     s: &[u8],
@@ -187,7 +195,7 @@ fn put_header(out: &mut [u8], count: usize)
 }
 
 // Writes the whole result by a plan; the flags and the last two lists are work room.
-pub fn write_result(
+pub fn serialize_cmap(
     out: &mut [u8],
     s: &[u8],
     codes: &[u32],
@@ -206,7 +214,7 @@ pub fn write_result(
     ensures { λ _. ⌜ now (out .exit) ≡ sets (now (out .entry)) 0 (resultOf (job (now (s .entry)) (now (codes .entry)) (now (glyphs .entry)) (now (kept .entry)) (now (map .entry)) (now (requested .entry))) os) ⌝ }
 {
     put_header(out, count);
-    put_records(out, s, os, count);
+    serialize_encoding_records(out, s, os, count);
     write_tables(
         out,
         s,

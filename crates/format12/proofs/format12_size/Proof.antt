@@ -1,4 +1,4 @@
--- The count of the groups, and 01's length for so many.
+-- The count of the groups, and the length of a subtable of so many.
 use native.Mathlib.Omega.{arith}
 use denote.Ref.{now}
 use Rattle.format12.proofs.GroupsLaws.{length-groups}

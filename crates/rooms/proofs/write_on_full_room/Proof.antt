@@ -3,8 +3,8 @@ use borrow.Author.Needs.{needs}
 use Rattle.rooms.proofs.write_on_full_room.Statement.{statement}
 use Rattle.rooms.proofs.write_on_full_room.Tie as tie
 
-write-result-requires : tie.Need-write-result-requires
-write-result-requires c κs = (search passing, search needs)
+serialize-cmap-requires : tie.Need-serialize-cmap-requires
+serialize-cmap-requires c κs = (search passing, search needs)
 
 same-length : tie.Need-same-length
 same-length c = search needs
@@ -13,4 +13,4 @@ returns : tie.Need-returns
 returns c = search needs
 
 pub write-on-full-room-spec : {M : Type 1} → statement M
-write-on-full-room-spec = tie.close (tie.spec write-result-requires same-length returns)
+write-on-full-room-spec = tie.close (tie.spec serialize-cmap-requires same-length returns)

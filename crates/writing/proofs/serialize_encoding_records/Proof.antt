@@ -3,8 +3,8 @@ use Prim.Native.Nat.{_-_}
 use native.Mathlib.Omega.{arith}
 use borrow.Author.Needs.{needs}
 use Rattle.writing.proofs.RecordsLaws.{Recording, recording, recording-room, recording-asks}
-use Rattle.writing.proofs.put_records.Statement.{statement}
-use Rattle.writing.proofs.put_records.Tie as tie
+use Rattle.writing.proofs.serialize_encoding_records.Statement.{statement}
+use Rattle.writing.proofs.serialize_encoding_records.Tie as tie
 
 abbrev Inv-loop : tie.InvT-loop
 Inv-loop out₀ s count os place₀ k₀ out place k = Recording s os out₀ out place k
@@ -27,8 +27,8 @@ add-k c = omega arith
 is-written-requires : tie.Need-is-written-requires Inv-loop μ-loop
 is-written-requires c κs = search needs
 
-put-record-requires : tie.Need-put-record-requires Inv-loop μ-loop
-put-record-requires c κs = (search recording-asks, search recording-room)
+serialize-encoding-record-requires : tie.Need-serialize-encoding-record-requires Inv-loop μ-loop
+serialize-encoding-record-requires c κs = (search recording-asks, search recording-room)
 
 add-place : tie.Need-add-place Inv-loop μ-loop
 add-place c = omega arith
@@ -51,8 +51,8 @@ same-length c = search needs
 returns : tie.Need-returns Inv-loop μ-loop
 returns c = search recording
 
-pub put-records-spec : {M : Type 1} → statement M
-put-records-spec =
+pub serialize-encoding-records-spec : {M : Type 1} → statement M
+serialize-encoding-records-spec =
     tie.close
     (tie.spec
     Inv-loop
@@ -62,7 +62,7 @@ put-records-spec =
     array-copy-out-o
     add-k
     is-written-requires
-    put-record-requires
+    serialize-encoding-record-requires
     add-place
     loop-less
     loop-again

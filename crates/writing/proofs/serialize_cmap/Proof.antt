@@ -1,14 +1,14 @@
 -- Header, records and tables, each behind the one before.
 use Rattle.writing.proofs.WholeLaws.{whole}
 use borrow.Author.Needs.{needs}
-use Rattle.writing.proofs.write_result.Statement.{statement}
-use Rattle.writing.proofs.write_result.Tie as tie
+use Rattle.writing.proofs.serialize_cmap.Statement.{statement}
+use Rattle.writing.proofs.serialize_cmap.Tie as tie
 
 put-header-requires : tie.Need-put-header-requires
 put-header-requires c κs = search needs
 
-put-records-requires : tie.Need-put-records-requires
-put-records-requires c κs = (search whole, search whole)
+serialize-encoding-records-requires : tie.Need-serialize-encoding-records-requires
+serialize-encoding-records-requires c κs = (search whole, search whole)
 
 write-tables-requires : tie.Need-write-tables-requires
 write-tables-requires c κs = search needs
@@ -28,12 +28,12 @@ same-length-4 c = search needs
 returns : tie.Need-returns
 returns c = search whole
 
-pub write-result-spec : {M : Type 1} → statement M
-write-result-spec =
+pub serialize-cmap-spec : {M : Type 1} → statement M
+serialize-cmap-spec =
     tie.close
     (tie.spec
     put-header-requires
-    put-records-requires
+    serialize-encoding-records-requires
     write-tables-requires
     same-length
     same-length-2

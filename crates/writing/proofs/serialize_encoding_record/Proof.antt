@@ -1,8 +1,8 @@
 -- The source's pair, and where the table of the record's maker stands.
 use Rattle.writing.proofs.RecordsLaws.{recorded}
 use borrow.Author.Needs.{needs}
-use Rattle.writing.proofs.put_record.Statement.{statement}
-use Rattle.writing.proofs.put_record.Tie as tie
+use Rattle.writing.proofs.serialize_encoding_record.Statement.{statement}
+use Rattle.writing.proofs.serialize_encoding_record.Tie as tie
 
 encoding-record-requires : tie.Need-encoding-record-requires
 encoding-record-requires c κs = search needs
@@ -28,8 +28,8 @@ same-length c = search needs
 returns : tie.Need-returns
 returns c = search recorded
 
-pub put-record-spec : {M : Type 1} → statement M
-put-record-spec =
+pub serialize-encoding-record-spec : {M : Type 1} → statement M
+serialize-encoding-record-spec =
     tie.close
     (tie.spec
     encoding-record-requires
