@@ -326,6 +326,70 @@ static void long_windows(job *j, size_t selectors)
     end14(j, at, from - at + 4 * RANGES);
 }
 
+static uint32_t mix_mapping(uint32_t sum, uint32_t c, uint32_t g)
+{
+    return mix(mix(mix(mix(mix(sum, c >> 16), c >> 8 & 255), c & 255), g >> 8), g & 255);
+}
+
+static uint32_t power(uint32_t n)
+{
+    uint32_t p = 1;
+    while (n-- > 0)
+        p *= 16777619u;
+    return p;
+}
+
+/* a mapping of a kept point whose checksum is that number, if there is one */
+static int mapping_of_sum(uint32_t sum, uint32_t *c, uint32_t *g)
+{
+    for (*c = 0; *c < KEPT_MAX - 512; (*c)++) {
+        uint32_t rest = sum - mix_mapping(0, *c, 0), high = rest >> 24, low = (rest & 0xFFFFFF) - 403 * high;
+        *g = high << 8 | low;
+        if (low < 256 && *g < 65535)
+            return 1;
+    }
+    return 0;
+}
+
+/* 512 non-default tables of 200,704 mappings that lie over one another in the source, all unlike, of one length and one checksum. They begin
+ * alike and go on so to almost their end. Each begins two mappings behind the one before, and a table's count is part of such a mapping:
+ * all of these are U+0003 to glyph 0x1000. At the end each table has two mappings more, found so that the checksum stays. */
+static void one_checksum_windows(job *j, size_t selectors)
+{
+    enum { COUNT = 0x31000 };
+    kept14(j, selectors);
+    size_t at = begin14(j, 2, selectors), off = 10 + 11 * selectors, grid = at + off + 4;
+    put32(j->source, at + off, COUNT);
+    for (size_t k = 0; k < COUNT; k++) {
+        put24(j->source, grid + 5 * k, 3);
+        put16(j->source, grid + 5 * k + 3, 0x1000);
+    }
+    uint32_t five = power(5), whole = 0, end = 0;
+    for (size_t k = 0; k < COUNT; k++)
+        whole = mix_mapping(whole, 3, 0x1000);
+    size_t last = COUNT;
+    tables_of(j, at, 0, 0, off);
+    for (size_t i = 1; i < selectors; i++) {
+        tables_of(j, at, i, 0, off + 10 * i);
+        uint32_t front = 0, shift = 1, c, g, one, other;
+        for (size_t k = 0; k < COUNT - 2 * i; k++)
+            front = mix_mapping(front, 3, 0x1000);
+        for (size_t k = 0; k < 2 * i; k++)
+            shift *= five;
+        do {
+            one = below(65536);
+            other = below(65535);
+        } while (!mapping_of_sum(whole - front * shift - mix_mapping(end, one, other) * five, &c, &g));
+        end = mix_mapping(mix_mapping(end, one, other), c, g);
+        put24(j->source, grid + 5 * last, one);
+        put16(j->source, grid + 5 * last + 3, other);
+        put24(j->source, grid + 5 * last + 5, c);
+        put16(j->source, grid + 5 * last + 8, g);
+        last += 2;
+    }
+    end14(j, at, off + 4 + 5 * last);
+}
+
 /* 512 unlike default tables that each hold 129,000 kept points, one record a point: a result of 265 million bytes */
 static void huge_result(job *j, size_t selectors)
 {
@@ -394,6 +458,7 @@ static const struct {
     {"unlike tables of one length", unlike_tables, "selectors", 512, 2, 64, 1 << 24},
     {"equal tables at different places", equal_tables, "selectors", 512, 1, 64, 1 << 24},
     {"unlike tables of one length and checksum", one_checksum, "selectors", 512, 2, 64, (size_t)280 << 20},
+    {"unlike tables of one length and checksum, 200,704 mappings that share bytes", one_checksum_windows, "selectors", 512, 2, 256, 1 << 24},
     {"tables of 257,000 ranges that share bytes", long_windows, "selectors", 512, 1, 256, 1 << 24},
     {"result too long for the output", huge_result, "selectors", 512, 1, 64, 1 << 24},
     {"the same result, with room", huge_result, "selectors", 512, 1, 64, (size_t)280 << 20},

@@ -412,6 +412,12 @@ int main(int argc, char **argv)
             }
         return 0;
     }
+    if (argc == 2 && strcmp(argv[1], "steps") == 0) {
+        static const size_t steps[] = {2, 10, 100, 1000, 2048, 2049};
+        for (size_t i = 0; i < sizeof steps / sizeof *steps; i++)
+            visit_made_up(steps[i], 1, see_time);
+        return 0;
+    }
     visit_all(-1, see_time);
     return 0;
 }
