@@ -1,0 +1,504 @@
+/* Sources made to cost much time, by a seeded generator: the time of one call, and what it answers. See README.md.
+ *
+ * hostile [LIMIT [NAME]]   each case at a small part of its size, four times that, and so on to the whole; a step that would take more than LIMIT seconds (60), by the
+ *                          growth that the case has, is not run but reckoned */
+#include "common.h"
+
+static uint64_t seed;
+
+static uint32_t below(uint32_t n)
+{
+    seed ^= seed << 13;
+    seed ^= seed >> 7;
+    seed ^= seed << 17;
+    return (uint32_t)((seed * 0x2545F4914F6CDD1Du >> 32) * (uint64_t)n >> 32);
+}
+
+enum { SELECTOR = 0xE0100 };
+
+static void lent(job *j, size_t pairs, uint32_t first_pair, uint32_t step, size_t kept, uint32_t first_kept)
+{
+    j->pair_count = pairs;
+    for (size_t i = 0; i < pairs; i++) {
+        j->pairs[i].code = first_pair + (uint32_t)i * step;
+        j->pairs[i].glyph = (uint16_t)(1 + i % 65534);
+    }
+    j->kept_count = kept;
+    for (size_t i = 0; i < kept; i++)
+        j->kept[i] = first_kept + (uint32_t)i;
+    j->map_count = GLYPHS_MAX;
+    for (size_t g = 0; g < GLYPHS_MAX; g++)
+        j->map[g] = (uint16_t)(g % 65535);
+    j->requested_count = 0;
+}
+
+/* the last places of the kept list become selectors */
+static void keep_selectors(job *j, size_t selectors)
+{
+    for (size_t i = 0; i < selectors; i++)
+        j->kept[j->kept_count - selectors + i] = SELECTOR + (uint32_t)i;
+}
+
+static void header(job *j, size_t records)
+{
+    memset(j->source, 0, SOURCE_MAX);
+    put16(j->source, 2, (uint32_t)records);
+}
+
+/* all groups hold the same 65,535 points from U+0000 on: (3,10) leads there */
+static void groups_over_all(job *j, size_t groups)
+{
+    header(j, 1);
+    lent(j, 65535, 0, 1, 65535, 0);
+    size_t at = 12;
+    put_record(j->source, 0, 3, 10, at);
+    put16(j->source, at, 12);
+    put32(j->source, at + 4, (uint32_t)(16 + 12 * groups));
+    put32(j->source, at + 12, (uint32_t)groups);
+    for (size_t g = 0; g < groups; g++) {
+        put32(j->source, at + 16 + 12 * g, 0);
+        put32(j->source, at + 20 + 12 * g, 65534);
+        put32(j->source, at + 24 + 12 * g, 1);
+    }
+    j->source_count = at + 16 + 12 * groups;
+}
+
+/* the same, and 64 records: a sibling (3,1) and 63 times (3,10), each asked whether it is covered */
+static void groups_and_siblings(job *j, size_t records)
+{
+    groups_over_all(j, 87000);
+    memmove(j->source + 4 + 8 * 64, j->source + 12, j->source_count - 12);
+    j->source_count += 8 * 63;
+    put16(j->source, 2, (uint32_t)records);
+    for (size_t k = 0; k < records; k++)
+        put_record(j->source, k, 3, k ? 10 : 1, 4 + 8 * 64);
+}
+
+/* segments that all hold U+0000 to U+FFFE, with places in the glyph array or past it */
+static size_t put_segments(uint8_t *s, size_t at, size_t segs, int maps)
+{
+    size_t length = 65534;
+    put16(s, at, 4);
+    put16(s, at + 2, (uint32_t)length);
+    put16(s, at + 6, (uint32_t)(2 * segs));
+    for (size_t i = 0; i < segs; i++) {
+        put16(s, at + 14 + 2 * i, 0xFFFE);
+        put16(s, at + 16 + 2 * segs + 2 * i, 0);
+        put16(s, at + 16 + 4 * segs + 2 * i, 1);
+        put16(s, at + 16 + 6 * segs + 2 * i, maps && i + 1 == segs ? 0 : 2 + 2 * below(32000));
+    }
+    return length;
+}
+
+/* 8,180 segments over all points; the last one maps each point */
+static void segments_over_all(job *j, size_t segs)
+{
+    header(j, 1);
+    lent(j, 65535, 0, 1, 65535, 0);
+    put_record(j->source, 0, 3, 1, 12);
+    j->source_count = 12 + put_segments(j->source, 12, segs, 1);
+}
+
+/* 64 records to such a table, whose result is too long, so that none serves another */
+static void segments_too_long(job *j, size_t records)
+{
+    header(j, records);
+    lent(j, 32767, 0, 2, 65535, 0);
+    for (size_t k = 0; k < records; k++)
+        put_record(j->source, k, 3, 1, 4 + 8 * 64);
+    j->source_count = 4 + 8 * 64 + put_segments(j->source, 4 + 8 * 64, 8180, 1);
+}
+
+/* 63 times (3,10) to a small format 12, whose sibling (3,1) is such a table */
+static void segments_as_sibling(job *j, size_t records)
+{
+    header(j, records);
+    lent(j, 32767, 0, 2, 65535, 0);
+    size_t at = 4 + 8 * 64, at12 = at + put_segments(j->source, at, 8180, 1);
+    uint32_t start = 0, end = 65534, glyph = 1;
+    for (size_t k = 0; k < records; k++)
+        put_record(j->source, k, 3, k ? 10 : 1, k ? at12 : at);
+    j->source_count = at12 + put_format12(j->source, at12, &start, &end, &glyph, 1);
+}
+
+/* ---- format 14 */
+
+/* Record 0 is (3,1) with one segment; records 1 and up are (0,5) to a format 14 at the place that is returned. */
+static size_t begin14(job *j, size_t records, size_t selectors)
+{
+    header(j, records);
+    uint32_t start = 0, end = 65534, glyph = 1;
+    size_t at = 4 + 8 * 64, at14 = at + put_format4(j->source, at, &start, &end, &glyph, 1);
+    put_record(j->source, 0, 3, 1, at);
+    for (size_t k = 1; k < records; k++)
+        put_record(j->source, k, 0, 5, at14);
+    put16(j->source, at14, 14);
+    put32(j->source, at14 + 6, (uint32_t)selectors);
+    for (size_t i = 0; i < selectors; i++)
+        put24(j->source, at14 + 10 + 11 * i, SELECTOR + (uint32_t)i);
+    return at14;
+}
+
+static void tables_of(job *j, size_t at, size_t i, size_t first, size_t second)
+{
+    put32(j->source, at + 13 + 11 * i, (uint32_t)first);
+    put32(j->source, at + 17 + 11 * i, (uint32_t)second);
+}
+
+static void end14(job *j, size_t at, size_t length)
+{
+    put32(j->source, at + 2, (uint32_t)length);
+    j->source_count = at + length;
+}
+
+/* ranges of 256 points in no order; base is U+0000 where they are to hold kept points */
+static size_t put_ranges(job *j, size_t at, size_t count, uint32_t base, uint32_t width)
+{
+    put32(j->source, at, (uint32_t)count);
+    for (size_t i = 0; i < count; i++) {
+        put24(j->source, at + 4 + 4 * i, base + below(width));
+        j->source[at + 7 + 4 * i] = 255;
+    }
+    return 4 + 4 * count;
+}
+
+/* mappings of points in no order */
+static size_t put_mappings(job *j, size_t at, size_t count, uint32_t base, uint32_t width)
+{
+    put32(j->source, at, (uint32_t)count);
+    for (size_t i = 0; i < count; i++) {
+        put24(j->source, at + 4 + 5 * i, base + below(width));
+        put16(j->source, at + 7 + 5 * i, below(65534));
+    }
+    return 4 + 5 * count;
+}
+
+static void kept14(job *j, size_t selectors)
+{
+    lent(j, 65535, 0, 1, KEPT_MAX, 0);
+    keep_selectors(j, selectors);
+}
+
+/* all kept points in 258,000 ranges that lie over one another, one selector */
+static void ranges_many_times(job *j, size_t ranges)
+{
+    kept14(j, 1);
+    size_t at = begin14(j, 2, 1), off = 10 + 11;
+    tables_of(j, at, 0, off, 0);
+    end14(j, at, off + put_ranges(j, at + off, ranges, 0, KEPT_MAX));
+}
+
+/* 512 selectors that share one default table of 258,000 ranges */
+static void shared_ranges(job *j, size_t selectors)
+{
+    kept14(j, selectors);
+    size_t at = begin14(j, 2, selectors), off = 10 + 11 * selectors;
+    for (size_t i = 0; i < selectors; i++)
+        tables_of(j, at, i, off, 0);
+    end14(j, at, off + put_ranges(j, at + off, 258000, 0, KEPT_MAX));
+}
+
+/* 512 selectors that share one non-default table of 206,000 mappings, half of them kept, the others looked for among 65,534 requested glyphs too */
+static void shared_mappings(job *j, size_t selectors)
+{
+    kept14(j, selectors);
+    j->requested_count = 65534;
+    for (size_t i = 0; i < j->requested_count; i++)
+        j->requested[i] = (uint16_t)i;
+    size_t at = begin14(j, 2, selectors), off = 10 + 11 * selectors;
+    for (size_t i = 0; i < selectors; i++)
+        tables_of(j, at, i, 0, off);
+    end14(j, at, off + put_mappings(j, at + off, 206000, 0, 2 * KEPT_MAX));
+}
+
+/* 512 default tables of one length, all unlike */
+static void unlike_tables(job *j, size_t selectors)
+{
+    kept14(j, selectors);
+    size_t at = begin14(j, 2, selectors), off = 10 + 11 * selectors;
+    for (size_t i = 0; i < selectors; i++) {
+        tables_of(j, at, i, off, 0);
+        size_t length = put_ranges(j, at + off, 500, 0, 65536);
+        for (size_t k = 0; k < 500; k++) { /* 500 ranges of one point each, one for each 100 points */
+            put24(j->source, at + off + 4 + 4 * k, (uint32_t)(100 * k) + below(100));
+            j->source[at + off + 7 + 4 * k] = 0;
+        }
+        off += length;
+    }
+    end14(j, at, off);
+}
+
+/* 512 default tables that are equal and stand at 512 places */
+static void equal_tables(job *j, size_t selectors)
+{
+    kept14(j, selectors);
+    size_t at = begin14(j, 2, selectors), off = 10 + 11 * selectors, first = off;
+    for (size_t i = 0; i < selectors; i++) {
+        tables_of(j, at, i, off, 0);
+        if (i == 0)
+            put_ranges(j, at + off, 500, 0, KEPT_MAX);
+        else
+            memcpy(j->source + at + off, j->source + at + first, 2004);
+        off += 2004;
+    }
+    end14(j, at, off);
+}
+
+static uint32_t mix(uint32_t sum, uint32_t byte) { return sum * 16777619u + byte; }
+
+/* the checksum of 16 single points, a bit for each of the 32 points from base on */
+static uint32_t sum_of(uint32_t base, uint32_t bits)
+{
+    uint32_t sum = 0;
+    for (uint32_t k = 0; k < 32; k++)
+        if (bits >> k & 1) {
+            uint32_t c = base + k;
+            sum = mix(mix(mix(mix(sum, c >> 16), c >> 8 & 255), c & 255), 0);
+        }
+    return sum;
+}
+
+/* two unlike choices of 16 of the 32 points from base on that have one checksum: found among many at random */
+static void two_of_one_sum(uint32_t base, uint32_t *one, uint32_t *other)
+{
+    enum { SLOTS = 1 << 22 };
+    static uint32_t slot[SLOTS];
+    memset(slot, 0, sizeof slot);
+    for (;;) {
+        uint32_t bits = below(0xFFFFFFFF);
+        if (__builtin_popcount(bits) != 16)
+            continue;
+        uint32_t sum = sum_of(base, bits), *p = &slot[sum % SLOTS];
+        if (*p && *p != bits && sum_of(base, *p) == sum) {
+            *one = *p;
+            *other = bits;
+            return;
+        }
+        *p = bits;
+    }
+}
+
+/* 512 default tables, all unlike, of one length and one checksum: nine blocks in two choices each, behind 87,000 points that all have in common */
+static void one_checksum(job *j, size_t selectors)
+{
+    kept14(j, selectors);
+    static uint32_t choice[9][2];
+    uint32_t base = 90000;
+    for (uint32_t b = 0; b < 9 && !choice[b][0]; b++)
+        two_of_one_sum(base + 32 * b, &choice[b][0], &choice[b][1]);
+    size_t at = begin14(j, 2, selectors), off = 10 + 11 * selectors;
+    for (size_t i = 0; i < selectors; i++) {
+        tables_of(j, at, i, off, 0);
+        size_t p = at + off, n = 0;
+        for (; n < 340; n++) {
+            put24(j->source, p + 4 + 4 * n, (uint32_t)(256 * n));
+            j->source[p + 7 + 4 * n] = 255;
+        }
+        for (uint32_t b = 0; b < 9; b++)
+            for (uint32_t k = 0; k < 32; k++)
+                if (choice[b][i >> b & 1] >> k & 1) {
+                    put24(j->source, p + 4 + 4 * n, base + 32 * b + k);
+                    j->source[p + 7 + 4 * n] = 0;
+                    n++;
+                }
+        put32(j->source, p, (uint32_t)n);
+        off += 4 + 4 * n;
+    }
+    end14(j, at, off);
+}
+
+/* 512 default tables that lie over one another in the source, each with the ranges from its own place on: each is long and all are unlike.
+ * A table's count is a range of the table before it. */
+static void long_windows(job *j, size_t selectors)
+{
+    enum { RANGES = 257000 };
+    kept14(j, selectors);
+    size_t at = begin14(j, 2, selectors), off = 10 + 11 * selectors, p = at + off;
+    for (size_t i = 0; i < selectors; i++) {
+        tables_of(j, at, i, off + 4 * i, 0);
+        put32(j->source, p + 4 * i, (uint32_t)(RANGES + selectors - 1 - i));
+    }
+    size_t from = p + 4 * selectors;
+    for (size_t i = 0; i < RANGES; i++) {
+        put24(j->source, from + 4 * i, 0x1000 + below(KEPT_MAX));
+        j->source[from + 3 + 4 * i] = 255;
+    }
+    end14(j, at, from - at + 4 * RANGES);
+}
+
+static uint32_t mix_mapping(uint32_t sum, uint32_t c, uint32_t g)
+{
+    return mix(mix(mix(mix(mix(sum, c >> 16), c >> 8 & 255), c & 255), g >> 8), g & 255);
+}
+
+static uint32_t power(uint32_t n)
+{
+    uint32_t p = 1;
+    while (n-- > 0)
+        p *= 16777619u;
+    return p;
+}
+
+/* a mapping of a kept point whose checksum is that number, if there is one */
+static int mapping_of_sum(uint32_t sum, uint32_t *c, uint32_t *g)
+{
+    for (*c = 0; *c < KEPT_MAX - 512; (*c)++) {
+        uint32_t rest = sum - mix_mapping(0, *c, 0), high = rest >> 24, low = (rest & 0xFFFFFF) - 403 * high;
+        *g = high << 8 | low;
+        if (low < 256 && *g < 65535)
+            return 1;
+    }
+    return 0;
+}
+
+/* 512 non-default tables of 200,704 mappings that lie over one another in the source, all unlike, of one length and one checksum. They begin
+ * alike and go on so to almost their end. Each begins two mappings behind the one before, and a table's count is part of such a mapping:
+ * all of these are U+0003 to glyph 0x1000. At the end each table has two mappings more, found so that the checksum stays. */
+static void one_checksum_windows(job *j, size_t selectors)
+{
+    enum { COUNT = 0x31000 };
+    kept14(j, selectors);
+    size_t at = begin14(j, 2, selectors), off = 10 + 11 * selectors, grid = at + off + 4;
+    put32(j->source, at + off, COUNT);
+    for (size_t k = 0; k < COUNT; k++) {
+        put24(j->source, grid + 5 * k, 3);
+        put16(j->source, grid + 5 * k + 3, 0x1000);
+    }
+    uint32_t five = power(5), whole = 0, end = 0;
+    for (size_t k = 0; k < COUNT; k++)
+        whole = mix_mapping(whole, 3, 0x1000);
+    size_t last = COUNT;
+    tables_of(j, at, 0, 0, off);
+    for (size_t i = 1; i < selectors; i++) {
+        tables_of(j, at, i, 0, off + 10 * i);
+        uint32_t front = 0, shift = 1, c, g, one, other;
+        for (size_t k = 0; k < COUNT - 2 * i; k++)
+            front = mix_mapping(front, 3, 0x1000);
+        for (size_t k = 0; k < 2 * i; k++)
+            shift *= five;
+        do {
+            one = below(65536);
+            other = below(65535);
+        } while (!mapping_of_sum(whole - front * shift - mix_mapping(end, one, other) * five, &c, &g));
+        end = mix_mapping(mix_mapping(end, one, other), c, g);
+        put24(j->source, grid + 5 * last, one);
+        put16(j->source, grid + 5 * last + 3, other);
+        put24(j->source, grid + 5 * last + 5, c);
+        put16(j->source, grid + 5 * last + 8, g);
+        last += 2;
+    }
+    end14(j, at, off + 4 + 5 * last);
+}
+
+/* 512 unlike default tables that each hold 129,000 kept points, one record a point: a result of 265 million bytes */
+static void huge_result(job *j, size_t selectors)
+{
+    enum { RANGES = 506 };
+    kept14(j, selectors);
+    size_t at = begin14(j, 2, selectors), off = 10 + 11 * selectors;
+    for (size_t i = 0; i < selectors; i++) {
+        size_t p = at + off;
+        tables_of(j, at, i, off, 0);
+        put32(j->source, p, RANGES);
+        for (size_t k = 0; k < RANGES; k++) {
+            put24(j->source, p + 4 + 4 * k, (uint32_t)(256 * k));
+            j->source[p + 7 + 4 * k] = (uint8_t)(k == i / 256 ? 255 - i % 256 : 255);
+        }
+        off += 4 + 4 * RANGES;
+    }
+    end14(j, at, off);
+}
+
+/* 63 records to a format 14 that comes to nothing, so that none serves another: 512 selectors share 206,000 mappings of points that are not
+ * kept. The size is the number of selectors times that of records. */
+static void empty_mappings(job *j, size_t size)
+{
+    size_t selectors = size < 512 ? size : 512, records = 1 + size / selectors;
+    kept14(j, selectors);
+    j->requested_count = 32767;
+    for (size_t i = 0; i < j->requested_count; i++)
+        j->requested[i] = (uint16_t)(2 * i);
+    size_t at = begin14(j, records, selectors), off = 10 + 11 * selectors;
+    for (size_t i = 0; i < selectors; i++)
+        tables_of(j, at, i, 0, off);
+    size_t length = put_mappings(j, at + off, 206000, 0x40000, 0x10000);
+    for (size_t i = 0; i < 206000; i++)
+        j->source[at + off + 8 + 5 * i] |= 1; /* no requested glyph */
+    end14(j, at, off + length);
+}
+
+/* the same with 258,000 ranges */
+static void empty_ranges(job *j, size_t size)
+{
+    size_t selectors = size < 512 ? size : 512, records = 1 + size / selectors;
+    kept14(j, selectors);
+    size_t at = begin14(j, records, selectors), off = 10 + 11 * selectors;
+    for (size_t i = 0; i < selectors; i++)
+        tables_of(j, at, i, off, 0);
+    end14(j, at, off + put_ranges(j, at + off, 258000, 0x40000, 0x10000));
+}
+
+static const struct {
+    const char *name;
+    void (*make)(job *, size_t);
+    const char *of;
+    size_t whole;
+    int power;    /* the time grows with this power of the size, or with less */
+    size_t first; /* the first part that is run */
+    size_t output;
+} cases[] = {
+    {"format 12 groups that all hold the same 65,535 points", groups_over_all, "groups", 87000, 1, 64, 1 << 24},
+    {"such groups, records to be found covered", groups_and_siblings, "records", 64, 1, 32, 1 << 24},
+    {"format 4 segments that all hold 65,535 points", segments_over_all, "segments", 8180, 1, 64, 1 << 24},
+    {"such segments, records too long", segments_too_long, "records", 64, 1, 32, 1 << 24},
+    {"such segments, sibling of records to be found covered", segments_as_sibling, "records", 64, 1, 32, 1 << 24},
+    {"kept points in ranges many times", ranges_many_times, "ranges", 258000, 1, 64, 1 << 24},
+    {"selectors that share 258,000 ranges", shared_ranges, "selectors", 512, 1, 256, 1 << 24},
+    {"selectors that share 206,000 mappings", shared_mappings, "selectors", 512, 1, 256, 1 << 24},
+    {"unlike tables of one length", unlike_tables, "selectors", 512, 2, 64, 1 << 24},
+    {"equal tables at different places", equal_tables, "selectors", 512, 1, 64, 1 << 24},
+    {"unlike tables of one length and checksum", one_checksum, "selectors", 512, 2, 64, (size_t)280 << 20},
+    {"unlike tables of one length and checksum, 200,704 mappings that share bytes", one_checksum_windows, "selectors", 512, 2, 256, 1 << 24},
+    {"tables of 257,000 ranges that share bytes", long_windows, "selectors", 512, 1, 256, 1 << 24},
+    {"result too long for the output", huge_result, "selectors", 512, 1, 64, 1 << 24},
+    {"the same result, with room", huge_result, "selectors", 512, 1, 64, (size_t)280 << 20},
+    {"empty format 14 of shared mappings", empty_mappings, "selectors times records", 32256, 1, 4096, 1 << 24},
+    {"empty format 14 of shared ranges", empty_ranges, "selectors times records", 32256, 1, 4096, 1 << 24},
+};
+
+int main(int argc, char **argv)
+{
+    double limit = argc > 1 ? atof(argv[1]) : 60;
+    uint8_t *output = room((size_t)280 << 20);
+    printf("case;of;size;source bytes;answer;length;seconds\n");
+    for (size_t i = 0; i < sizeof cases / sizeof *cases; i++) {
+        if (argc > 2 && !strstr(cases[i].name, argv[2]))
+            continue;
+        seed = 0x2026111500000001u + i;
+        double before = 0;
+        size_t last = 0;
+        for (size_t part = cases[i].first; part >= 1; part = part == 2 ? 1 : part / 4) {
+            size_t size = cases[i].whole / part;
+            if (size < 2)
+                size = 2;
+            double growth = last ? (double)size / (double)last : 1;
+            double guess = before * (cases[i].power == 2 ? growth * growth : growth);
+            if (guess > limit) {
+                size = cases[i].whole;
+                growth = (double)size / (double)last;
+                printf("%s;%s;%zu;;;;~%.0f\n", cases[i].name, cases[i].of, size, before * (cases[i].power == 2 ? growth * growth : growth));
+                break;
+            }
+            job j = job_new();
+            cases[i].make(&j, size);
+            double from = cpu_us();
+            crustedlane_answer a = cut(&j, output, cases[i].output);
+            before = (cpu_us() - from) / 1e6;
+            last = size;
+            printf("%s;%s;%zu;%zu;%d;%zu;%.3f\n", cases[i].name, cases[i].of, size, j.source_count, a.number, a.length, before);
+            fflush(stdout);
+            job_free(&j);
+        }
+    }
+    return 0;
+}
