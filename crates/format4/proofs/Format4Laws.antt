@@ -1,5 +1,5 @@
 -- The lengths of a format 4 subtable's parts, and of its bytes.
-use Prim.Native.Nat.{ℕ, suc, _+_, _*_, _≤_}
+use Prim.Native.Nat.{ℕ, suc, _+_}
 use mathlib.Core.Path.{_≡_, refl, ap}
 use mathlib.Core.List.{List, [], _∷_, _++_}
 use mathlib.Core.Bool.{Bool, true, false}
@@ -12,9 +12,7 @@ use Rattle.number.proofs.RowLaws.{length-encs}
 use Rattle.ranges.specs.declared.Segment.{Segment}
 use Rattle.ranges.specs.Cutting.{segments, glyphArray, entriesOf, points}
 use Rattle.ranges.specs.Steps.{arrayFrom}
-use Rattle.ranges.proofs.CuttingLaws.{length-array}
 use Rattle.format4.specs.Format4.{offsetsFrom, lengthWith, header, endOf, startOf, deltaOf, numbers, format4}
-use Rattle.format4.proofs.CutLaws.{segments-fed, entries-fed, segments-few}
 
 pub length-offsets : (before : ℕ) (ss : List Segment) → length (offsetsFrom before ss) ≡ length ss
 unfolding offsetsFrom
@@ -42,7 +40,3 @@ length-format4 language ps =
     let d = length-map ss deltaOf in
     let o = length-offsets 0 ss in
     rw (length-encs 2 (numbers language ss (glyphArray ps))) (simp (length-append, e, s, d, o) (omega arith))
-
--- as long as this for so many pairs
-pub length-small : (ps : List Pair) → lengthWith (length (segments ps)) (length (glyphArray ps)) ≤ 24 + 10 * length ps
-length-small ps = omega (arith, segments-few ps, length-array ps, entries-fed (segments ps) (length ps) (segments-fed ps))

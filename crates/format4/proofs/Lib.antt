@@ -1,4 +1,3 @@
-pub mod WalkLaws
 pub mod CutLaws
 pub mod Format4Laws
 pub mod CountLaws

@@ -1,5 +1,5 @@
 -- How long a format 4 subtable gets, and whether it is written at all (docs/01-rules.md, "Format 4").
-use Prim.Native.Nat.{ℕ, _+_, _*_, _≤_, _<_}
+use Prim.Native.Nat.{ℕ, _≤_, _<_}
 use mathlib.Core.Path.{_≡_}
 use mathlib.Core.List.{List, [], _∷_}
 use lib.Dec.{leb}

@@ -1,18 +1,16 @@
 -- The walks over a plan: refusals 8 and 9, counts and lengths.
-use Prim.Native.Nat.{ℕ, zero, suc, _+_, _*_, _-_, _<_, _≤_}
-use mathlib.Core.Path.{_≡_, refl, sym, ap, _∙_}
+use Prim.Native.Nat.{ℕ, suc, _+_, _*_, _-_, _<_, _≤_}
+use mathlib.Core.Path.{_≡_, ap}
 use mathlib.Core.List.{List}
 use mathlib.Core.Bool.{Bool, true, false, not}
 use native.Mathlib.Omega.{arith}
 use lib.ListN.{getD}
-use Rattle.laws.specs.Search.{some}
-use Rattle.laws.specs.Choice.{pick}
 use Rattle.laws.proofs.SearchLaws.{Asking, asking-start, asking-on, asking-yes, asking-no}
-use Rattle.records.specs.Records.{Placed, Counted}
+use Rattle.records.specs.Records.{Counted}
 use Rattle.records.proofs.RecordsLaws.{placed}
 use Rattle.plan.specs.declared.Outcome.{Outcome}
 use Rattle.plan.specs.declared.Outcome.the-variants.{NotRetained}
-use Rattle.plan.specs.Plan.{isBad, sizeOf, refused8, refused9, counts, Small}
+use Rattle.plan.specs.Plan.{isBad, sizeOf, refused9, counts, Small}
 use Rattle.result.specs.Result.{isWritten, countFrom, sizesFrom}
 use Rattle.layout.specs.Layout.{Inside}
 

@@ -2,11 +2,10 @@
 use plan::Outcome;
 ghost use mathlib.Core.Path.{_≡_};
 ghost use Prim.Native.Nat.{_+_, _*_, _-_, _<_, _≤_};
-ghost use lib.ListN.{getD};
-ghost use Rattle.laws.specs.Choice.{both, either};
+ghost use Rattle.laws.specs.Choice.{either};
 ghost use Rattle.records.specs.Records.{leadsToFormat, Placed, Counted};
-ghost use Rattle.plan.specs.Plan.{isMade, sizeOf, refused8, refused9, counts, Short, Small};
-ghost use Rattle.result.specs.Result.{isWritten, makerOf, countFrom, sizesFrom, written, resultLength};
+ghost use Rattle.plan.specs.Plan.{sizeOf, refused8, refused9, counts, Small};
+ghost use Rattle.result.specs.Result.{isWritten, makerOf, sizesFrom, written};
 ghost use Rattle.layout.specs.Layout.{Inside};
 
 // Refusal 8.

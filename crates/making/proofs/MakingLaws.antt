@@ -1,26 +1,26 @@
 -- The first places of the two columns hold the listed pairs, and those of a format 4 lie below 65,536.
 use Prim.Native.Nat.{ℕ, zero, suc, _+_, _*_, _<_, _≤_}
-use mathlib.Core.Path.{_≡_, refl, sym, ap, ap₂, _∙_}
-use mathlib.Core.List.{List, [], _∷_, map}
+use mathlib.Core.Path.{_≡_, refl, sym, ap, _∙_}
+use mathlib.Core.List.{List, [], _∷_}
 use mathlib.Core.Bool.{Bool, true, false}
 use native.Mathlib.Omega.{arith}
 use lib.ListN.{length, getD, take}
 use lib.Seq.{sets, length-take-le, length-sets}
-use Rattle.laws.specs.Choice.{pick, both}
+use Rattle.laws.specs.Choice.{pick}
 use Rattle.laws.specs.Lists.{Pair, pairs}
 use Rattle.laws.specs.Select.{select}
 use Rattle.laws.proofs.ChoiceLaws.{both-right, false-true}
 use Rattle.laws.proofs.SetsLaws.{take-sets}
 use Rattle.laws.proofs.LengthLaws.{length-map, length-pairs, length-select}
-use Rattle.number.specs.BigEndian.{Bytes, be}
+use Rattle.number.specs.BigEndian.{Bytes}
 use Rattle.number.proofs.BigEndianLaws.{be-lt}
 use Rattle.source.specs.declared.Kind.{Kind}
 use Rattle.source.specs.declared.Kind.the-variants.{Format4, Format12, Format14, Unreadable}
 use Rattle.source.specs.Kind.{formatOf}
 use Rattle.source.specs.Header.{offsetOf}
 use Rattle.records.specs.Records.{leadsTo}
-use Rattle.mapped4.specs.Mapped4.{maps4, lastSays, segment4, holds4}
-use Rattle.listing.specs.Listing.{mapsAs, maps, listed, codesOf, glyphsOf, Columns}
+use Rattle.mapped4.specs.Mapped4.{maps4, lastSays, segment4}
+use Rattle.listing.specs.Listing.{mapsAs, maps, listed, codesOf, glyphsOf}
 use lib.Dec.{leb}
 use borrow.Author.Tests.{leb-true}
 use Rattle.format12.proofs.TableLaws.{length-table}

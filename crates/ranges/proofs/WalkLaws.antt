@@ -17,9 +17,9 @@ use Rattle.ranges.specs.declared.Segment.{Segment}
 use Rattle.ranges.specs.declared.RangeState.{RangeState}
 use Rattle.ranges.specs.declared.Absorbed.{Absorbed}
 use Rattle.ranges.specs.declared.Committed.the-variants.{None, One, Two}
-use Rattle.ranges.specs.Steps.{idle, begun, grown, turned, absorbed, pays, commit, step, finish, toList, cutFrom, entries, arrayFrom}
-use Rattle.ranges.specs.Cutting.{nextCode, nextGlyph, rangesOf, runsOf, reachesCost, Cut, loneDelta, cutOf, commitRun, cutRuns, cutRange, cuts, lastCode, segmentOf, segments, glyphs, glyphArray, pairDelta, seg, closing}
-use Rattle.ranges.proofs.CuttingLaws.{last-append, segments-closed, array-from, length-array}
+use Rattle.ranges.specs.Steps.{idle, begun, grown, turned, absorbed, pays, commit, step, finish, toList, cutFrom}
+use Rattle.ranges.specs.Cutting.{nextCode, nextGlyph, rangesOf, runsOf, reachesCost, Cut, loneDelta, cutOf, commitRun, cutRuns, cutRange, cuts, lastCode, segmentOf, segments, pairDelta, seg, closing}
+use Rattle.ranges.proofs.CuttingLaws.{last-append, segments-closed}
 
 -- ---- a run as the walk has gathered it: from x to l
 
@@ -218,9 +218,3 @@ pub walk-cuts : (ps : List Pair) → segments ps ≡ cutFrom idle ps
 unfolding cutFrom step finish segments cuts
 walk-cuts [] = unfold concat pieces in refl
 walk-cuts (p ∷ ps) = segments-closed (p ∷ ps) ∙ rw (cuts-from (rangesOf (p ∷ ps))) (sym (walks ps false (p .0) (p .0) 0 [] p p [] lone lone refl))
-
-pub walk-array : (ps : List Pair) → arrayFrom (glyphs ps) (cutFrom idle ps) ≡ glyphArray ps
-walk-array ps = rw (← walk-cuts ps) (array-from ps)
-
-pub walk-entries : (ps : List Pair) → length (glyphArray ps) ≡ entries (cutFrom idle ps)
-walk-entries ps = rw (← walk-cuts ps) (length-array ps)
