@@ -19,7 +19,6 @@ use Rattle.lookup.specs.declared.Found.{Found}
 use Rattle.lookup.specs.Lookup.{lookup4, lookup12, glyphOf}
 use Rattle.heads.specs.declared.Answer.the-variants.{Glyph, Refused}
 use Rattle.heads.specs.Heads.{oldHead, newHead}
-use Rattle.heads.specs.Heads.{leadsTo as headLeadsTo}
 use Rattle.heads.proofs.HeadsLaws.{old-first, old-none, new-first, new-as-old}
 use Rattle.plan.specs.declared.Outcome.{Outcome}
 use Rattle.plan.specs.declared.Outcome.the-variants.{NotRetained, Skipped, Empty, TooLong, Covered, BadMapping, Served, Made}
@@ -50,7 +49,8 @@ maker-self (Made n) k e = refl
 module _ (j : Job) (os : List Outcome) (s : Sound j os) where
   module _ (format : ℕ) (look : List ℕ → ℕ → ℕ → Found) (t : Reads format look j os) where
     -- a record of the result leads to the format that its source record leads to
-    leads-alike : (k : ℕ) → isWritten (at os k) ≡ true → headLeadsTo (resultOf j os) format (countFrom os k 0) ≡ leadsToFormat format (j .source) k
+    leads-alike : (k : ℕ) → isWritten (at os k) ≡ true → leadsToFormat format (resultOf j os) (countFrom os k 0) ≡ leadsToFormat format (j .source) k
+    unfolding leadsTo
     leads-alike k w =
         let m = maker-of j os s k w in
         let e = entry-written j os s k w in
@@ -59,15 +59,15 @@ module _ (j : Job) (os : List Outcome) (s : Sound j os) where
         (ap (λ (p : ℕ). formatOf (kindAt (resultOf j os) p)) (e .offset) ∙ t .alike (makerOf (at os k) k) (resultOf j os) (offsetIn os (makerOf (at os k) k)) (m .maker) st ∙ m .alike)
 
     -- no record of the result before one that made a table of the format leads to the format
-    leads-not : (n : ℕ) → n ≤ 64 → n ≤ first (makes j os format) 64 0 → (i : ℕ) → i < countFrom os n 0 → headLeadsTo (resultOf j os) format i ≡ false
+    leads-not : (n : ℕ) → n ≤ 64 → n ≤ first (makes j os format) 64 0 → (i : ℕ) → i < countFrom os n 0 → leadsToFormat format (resultOf j os) i ≡ false
     leads-not n b h i l =
         let p = count-find os n 0 i l in
         let k = p .place in
         let w : isWritten (at os k) ≡ true = rw (zero-add k) at (p .written) in
         let m = maker-of j os s k w in
-        not-true (headLeadsTo (resultOf j os) format i)
+        not-true (leadsToFormat format (resultOf j os) i)
         (λ e.
-        let f : leadsToFormat format (j .source) k ≡ true = sym (leads-alike k w) ∙ ap (headLeadsTo (resultOf j os) format) (p .before) ∙ e in
+        let f : leadsToFormat format (j .source) k ≡ true = sym (leads-alike k w) ∙ ap (leadsToFormat format (resultOf j os)) (p .before) ∙ e in
         let g : leadsToFormat format (j .source) (makerOf (at os k) k) ≡ true = ap (λ (x : ℕ). eqb x format) (m .alike) ∙ f in
         let no = first-before (makes j os format) 64 (makerOf (at os k) k) (omega (arith, m .earlier, p .below)) (omega (arith, m .earlier, p .below)) in
         false-true (sym no ∙ rw (m .maker) g))
@@ -75,8 +75,8 @@ module _ (j : Job) (os : List Outcome) (s : Sound j os) where
     -- the record of the result that the first maker became
     pub record Leader (r i : ℕ) : Type 0 where
       pub inside : i < written os
-      pub leads : headLeadsTo (resultOf j os) format i ≡ true
-      pub none : (k : ℕ) → k < i → headLeadsTo (resultOf j os) format k ≡ false
+      pub leads : leadsToFormat format (resultOf j os) i ≡ true
+      pub none : (k : ℕ) → k < i → leadsToFormat format (resultOf j os) k ≡ false
       pub gives : (c : ℕ) → glyphOf (look (resultOf j os) (offsetOf (resultOf j os) i) c) ≡ listedGlyph (listedOf j r) c
 
     pub leader : (r : ℕ) → r ≡ first (makes j os format) 64 0 → r < 64 → Leader r (countFrom os r 0)
@@ -94,7 +94,7 @@ module _ (j : Job) (os : List Outcome) (s : Sound j os) where
           gives = λ c. rw o (t .gives r (resultOf j os) (offsetIn os r) m (table-stands j os s r m) f c);
         }
 
-    pub leaderless : 64 ≤ first (makes j os format) 64 0 → (i : ℕ) → i < written os → headLeadsTo (resultOf j os) format i ≡ false
+    pub leaderless : 64 ≤ first (makes j os format) 64 0 → (i : ℕ) → i < written os → leadsToFormat format (resultOf j os) i ≡ false
     leaderless h = leads-not 64 (omega arith) h
 
   -- ---- the heads

@@ -14,7 +14,7 @@ use Rattle.source.specs.Header.{refused5}
 use Rattle.source.specs.Kind.{kindAt}
 use Rattle.records.specs.Records.{leadsTo, bmpPair, fullPair, retained, someRetained}
 use Rattle.marks.specs.Marks.{below, holds}
-use Rattle.checks.specs.Checks.{badSizes, falls, exceeds, lacks}
+use Rattle.checks.specs.Checks.{badSizes, falls, exceeds, lacks, reachesCount}
 use Rattle.checks.proofs.ChecksLaws.{at-most}
 use Rattle.mapped4.specs.Mapped4.{entry4, says4, lastSays, maps4}
 use Rattle.listing.specs.Listing.{maps, listed}
@@ -38,14 +38,14 @@ plan-case = refl
 
 -- its premises hold, so the theorem is not empty
 pub bytes-case : Bytes (job .source)
-unfolding exceeds some
+unfolding exceeds anyOf
 bytes-case i =
     by-leb (getD bytes i 0 < 256) (length bytes) i
     (λ h. rw (List·getD-eq-default bytes 0 {n = i} h) (omega arith))
     (λ h. omega (arith, at-most 255 bytes refl i h))
 
 pub accepted-case : refusalOf job ≡ 0
-unfolding ifLt ifLe ifEq first some anyOf be refused5 kindAt leadsTo bmpPair fullPair retained someRetained below holds badSizes falls exceeds lacks refused8 refused9 refusalOf
+unfolding ifLt ifLe ifEq first some anyOf be refused5 kindAt leadsTo bmpPair fullPair retained someRetained below holds badSizes falls exceeds lacks reachesCount refused8 refused9 refusalOf
 accepted-case = rw plan-case
 
 written-case : resultOf job (set (replicate 64 NotRetained) 0 (Made 32)) ≡ bytes

@@ -1,5 +1,5 @@
 -- What sizes and numbers hold to that refusals 1 to 4 let pass.
-use Prim.Native.Nat.{ℕ, _-_, _≤_}
+use Prim.Native.Nat.{ℕ, _≤_}
 use mathlib.Core.Path.{_≡_}
 use mathlib.Core.List.{List}
 use mathlib.Core.Bool.{Bool, false, not}
@@ -12,7 +12,7 @@ use Rattle.laws.specs.Lists.{Rising}
 use Rattle.laws.proofs.ChoiceLaws.{by-leb}
 use Rattle.laws.proofs.EitherLaws.{true-of-not, neither-left, neither-right}
 use Rattle.number.specs.Limits.{sourceMax, pairsMax, keptMax, glyphCountMax, requestedMax, unicodeMax, newGlyphMax}
-use Rattle.checks.specs.Checks.{badSizes, falls, exceeds, badPairs, badKept, badRequested, lacks}
+use Rattle.checks.specs.Checks.{badSizes, falls, exceeds, badPairs, badKept, badRequested, lacks, reachesCount}
 use Rattle.checks.proofs.ChecksLaws.{rising, at-most}
 
 pub record Sizes (source codes glyphs kept n requested : ℕ) : Type 0 where
@@ -88,4 +88,4 @@ module _ (kept codes : List ℕ) (e : badKept kept codes ≡ false) where
       (neither-left (exceeds unicodeMax kept) (lacks kept codes) (neither-right (falls kept) (either (exceeds unicodeMax kept) (lacks kept codes)) e))
 
 pub requested-rise : (n : ℕ) (requested : List ℕ) → badRequested n requested ≡ false → Rising requested
-requested-rise n requested e = rising requested (neither-left (falls requested) (exceeds (n - 1) requested) e)
+requested-rise n requested e = rising requested (neither-left (falls requested) (reachesCount n requested) e)

@@ -26,16 +26,13 @@ badSizes source codes glyphs kept n requested =
 abbrev pub notBelowNext : List ℕ → ℕ → Bool
 notBelowNext xs i = leb (getD xs (i + 1) 0) (getD xs i 0)
 
-abbrev pub isAbove : ℕ → List ℕ → ℕ → Bool
-isAbove m xs i = ltb m (getD xs i 0)
-
 -- some number is not below the next
 unfoldable pub falls : List ℕ → Bool
 falls xs = some (notBelowNext xs) (length xs - 1) 0
 
 -- some number is above m
 unfoldable pub exceeds : ℕ → List ℕ → Bool
-exceeds m xs = some (isAbove m xs) (length xs) 0
+exceeds m xs = anyOf (ltb m) xs
 
 -- ---- 2: pairs break order or limits
 
@@ -52,6 +49,9 @@ badKept kept codes = either (falls kept) (either (exceeds unicodeMax kept) (lack
 
 -- ---- 4: requested breaks order or limit
 
--- each is below n, which is at least 1
+-- one is not below n
+unfoldable pub reachesCount : ℕ → List ℕ → Bool
+reachesCount n requested = anyOf (leb n) requested
+
 abbrev pub badRequested : ℕ → List ℕ → Bool
-badRequested n requested = either (falls requested) (exceeds (n - 1) requested)
+badRequested n requested = either (falls requested) (reachesCount n requested)

@@ -3,11 +3,11 @@ use number::limits;
 use number::limits::CodePoint;
 use number::limits::NewGlyph;
 ghost use mathlib.Core.Path.{_≡_};
-ghost use Prim.Native.Nat.{_+_, _-_, _<_, _≤_};
-ghost use lib.ListN.{length, getD};
 ghost use lib.Dec.{leb, ltb};
 ghost use Rattle.laws.specs.Lists.{Rising};
-ghost use Rattle.checks.specs.Checks.{badSizes, falls, exceeds, badPairs, lacks, badKept, badRequested};
+ghost use mathlib.Core.Bool.{not};
+ghost use Rattle.marks.specs.Marks.{holds, Bound};
+ghost use Rattle.checks.specs.Checks.{badSizes, falls, exceeds, badPairs, lacks, badKept, reachesCount, badRequested};
 
 pub fn bad_sizes(
     source: usize,
@@ -128,27 +128,58 @@ fn exceeds16(m: u16, xs: &[u16]) -> bool
     false
 }
 
-// Some listed code point is not kept. Both lists rise, so one walk along both finds it.
+fn not_below_count(n: usize, a: u16) -> bool
+    ensures { λ r. ⌜ r ≡ leb n a ⌝ }
+{
+    n <= a as usize
+}
+
+// Some number is n or more.
+fn reaches_count(n: usize, xs: &[u16]) -> bool
+    ensures { λ r. ⌜ r ≡ reachesCount n (now (xs .entry)) ⌝ }
+{
+    let mut i = 0;
+    while i < xs.len() {
+        if not_below_count(n, xs[i]) {
+            return true;
+        }
+        i += 1;
+    }
+    false
+}
+
+fn kept_below(kept: &[u32], c: u32, near: usize) -> usize
+    requires { ⌜ Rising (now kept) ⌝ }
+    ensures { λ r. ⌜ Bound (now (kept .entry)) c r ⌝ }
+{
+    marks::count_near(kept, c as u64, near)
+}
+
+// Whether c is not the kept point behind the i that are below it.
+fn is_missing(kept: &[u32], c: u32, i: usize) -> bool
+    requires { ⌜ Rising (now kept) ⌝ }
+    requires { ⌜ Bound (now kept) c i ⌝ }
+    ensures { λ r. ⌜ r ≡ not (holds (now (kept .entry)) c) ⌝ }
+{
+    if i < kept.len() {
+        return kept[i] != c;
+    }
+    true
+}
+
+// Some listed code point is not kept. Where the code points rise, each is found near the one before.
 fn lacks(kept: &[u32], codes: &[u32]) -> bool
     requires { ⌜ Rising (now kept) ⌝ }
-    requires { ⌜ Rising (now codes) ⌝ }
     ensures { λ r. ⌜ r ≡ lacks (now (kept .entry)) (now (codes .entry)) ⌝ }
 {
-    let mut k = 0;
+    let mut near = 0;
     let mut i = 0;
     while i < codes.len() {
-        if kept.len() <= k {
+        near = kept_below(kept, codes[i], near);
+        if is_missing(kept, codes[i], near) {
             return true;
         }
-        let here = kept[k];
-        let c = codes[i];
-        k += 1;
-        if c < here {
-            return true;
-        }
-        if c <= here {
-            i += 1;
-        }
+        i += 1;
     }
     false
 }
@@ -166,7 +197,6 @@ pub fn bad_pairs(codes: &[u32], glyphs: &[u16]) -> bool
 }
 
 pub fn bad_kept(kept: &[u32], codes: &[u32]) -> bool
-    requires { ⌜ Rising (now codes) ⌝ }
     ensures { λ r. ⌜ r ≡ badKept (now (kept .entry)) (now (codes .entry)) ⌝ }
 {
     if falls(kept) {
@@ -179,11 +209,10 @@ pub fn bad_kept(kept: &[u32], codes: &[u32]) -> bool
 }
 
 pub fn bad_requested(n: usize, requested: &[u16]) -> bool
-    requires { ⌜ (1 ≤ n) × (n ≤ 65535) ⌝ }
     ensures { λ r. ⌜ r ≡ badRequested n (now (requested .entry)) ⌝ }
 {
     if falls16(requested) {
         return true;
     }
-    exceeds16((n - 1) as u16, requested)
+    reaches_count(n, requested)
 }

@@ -2,13 +2,13 @@
 use Prim.Native.Nat.{ℕ, _≤_, _<_}
 use mathlib.Core.Path.{_≡_}
 use mathlib.Core.List.{List}
-use mathlib.Core.Bool.{Bool, true, false, not}
+use mathlib.Core.Bool.{Bool, false, not}
 use lib.Dec.{ltb, leb, eqb}
 use lib.ListN.{length, getD}
 use Rattle.laws.specs.Choice.{both, either}
 use Rattle.laws.specs.Lists.{Rising}
 use Rattle.laws.specs.Search.{first, some}
-use Rattle.laws.specs.Select.{anyOf}
+use Rattle.laws.specs.Select.{select, anyOf, eqList}
 use Rattle.source.specs.declared.Kind.{Kind}
 use Rattle.source.specs.declared.Kind.the-variants.{Format4, Format12, Format14, Unreadable}
 use Rattle.source.specs.Header.{recordCount}
@@ -21,13 +21,9 @@ use Rattle.listing.specs.Listing.{maps}
 unfoldable pub reachesAbove : List ℕ → ℕ → List ℕ → ℕ → Bool
 reachesAbove xs n kept k = anyOf (λ c. both (maps xs n k c) (leb 0x10000 c)) kept
 
-abbrev pub differ : Bool → Bool → Bool
-differ true b = not b
-differ false b = b
-
 -- the subtables of records k and i map the same kept points
 unfoldable pub mapAlike : List ℕ → ℕ → List ℕ → ℕ → ℕ → Bool
-mapAlike xs n kept k i = not (anyOf (λ c. differ (maps xs n k c) (maps xs n i c)) kept)
+mapAlike xs n kept k i = eqList (select (maps xs n k) kept) (select (maps xs n i) kept)
 
 -- ---- the sibling
 

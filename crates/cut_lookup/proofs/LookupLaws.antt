@@ -24,7 +24,10 @@ use Rattle.ranges.specs.declared.Segment.{Segment}
 use Rattle.ranges.specs.Cutting.{nextCode, nextGlyph, rangesOf, runsOf, Cut, cutOf, present, cutRange, cuts, runDelta, firstCode, lastCode, segmentOf, lastEnd, segments, glyphs, arrayOf, glyphArray, closing, entriesOf}
 use Rattle.ranges.proofs.CuttingLaws.{parts, Adjacent, linked-length, cuts-pairs, runs-each, cuts-each, cuts-adjacent}
 use Rattle.cut_lookup.proofs.FitsLaws.{Fit, cuts-fit, first-low}
-use Rattle.cut_lookup.specs.Lookup.{valueIn, lookupIn, unlisted, codes, Fits, Listed}
+use Rattle.cut_lookup.specs.Lookup.{valueIn, lookupIn, unlisted, Fits, Listed}
+
+abbrev codes : List Pair → List ℕ
+codes ps = map (λ (p : Pair). p .0) ps
 
 -- ---- a run's delta tells its glyphs
 

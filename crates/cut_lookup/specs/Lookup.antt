@@ -1,4 +1,4 @@
--- Looking a code point up in segments and their glyph array (01, "Heads"), and what is asked of the pairs they were cut from.
+-- Looking a code point up in segments and their glyph array (docs/01-rules.md, "Heads"), and what is asked of the pairs they were cut from.
 -- What is found is told by `none`, nothing there, and `glyph`, a glyph there, which may be 0.
 use Prim.Native.Nat.{ℕ, _+_, _-_, _%_, _<_}
 use mathlib.Core.List.{List, [], _∷_, map}
@@ -10,12 +10,12 @@ use Rattle.laws.specs.Linked.{Each}
 use Rattle.ranges.specs.declared.Segment.{Segment}
 use Rattle.ranges.specs.Cutting.{entriesOf}
 
--- What a segment that holds c gives: "(c+delta) mod 65,536", or where the delta is 0 its glyph array's entry for c. The array is
--- given from the segment's first entry on.
+-- what a segment that holds c gives: c + delta, mod 65,536, or where the delta is 0 its glyph array's entry for c; the array is given
+-- from the segment's first entry on
 abbrev pub valueIn : List ℕ → Segment → ℕ → ℕ
 valueIn array x c = pick (eqb (x .delta) 0) (getD array (c - x .start) 0) ((c + x .delta) % 65536)
 
--- "first segment with end at least c"; none if there is none, or if its start exceeds c
+-- the first segment whose end is at least c; none if there is none, or if its start exceeds c
 unfoldable pub lookupIn : {A : Type 0} → A → (ℕ → A) → List ℕ → List Segment → ℕ → A
 lookupIn none glyph array [] c = none
 lookupIn none glyph array (x ∷ xs) c =
@@ -26,14 +26,11 @@ lookupIn none glyph array (x ∷ xs) c =
 abbrev pub unlisted : {A : Type 0} → A → (ℕ → A) → ℕ → A
 unlisted none glyph c = pick (eqb c 65535) (glyph 0) none
 
-abbrev pub codes : List Pair → List ℕ
-codes ps = map (λ (p : Pair). p .0) ps
-
 -- code points and glyphs of 16 bits
 abbrev pub Fits : Pair → Type 0
 Fits p = (p .0 < 65536) × (p .1 < 65536)
 
 -- pairs that a format 4 table can hold, the code points rising
 pub record Listed (ps : List Pair) : Type 0 where
-  pub rising : Rising (codes ps)
+  pub rising : Rising (map (λ (p : Pair). p .0) ps)
   pub fits : Each Fits ps

@@ -1,4 +1,4 @@
--- The header's numbers and each group's read back from the bytes, wherever the subtable stands.
+-- The header's numbers and each group's read back from the bytes of a subtable.
 use Prim.Native.Nat.{ℕ, zero, suc, _+_, _*_, _^_, _≤_, _<_}
 use mathlib.Core.Path.{_≡_, refl, _∙_}
 use mathlib.Core.List.{List, [], _∷_, _++_, map}
@@ -10,19 +10,17 @@ use Rattle.laws.specs.Pieces.{pieces, concat}
 use Rattle.laws.proofs.LengthLaws.{length-map}
 use Rattle.laws.proofs.PiecesLaws.{Joined, concat-pieces}
 use Rattle.laws.proofs.PartedLaws.{Parted, parted-none, parted-last, parted-more, pieces-parted, length-pieces}
-use Rattle.laws.proofs.StandsLaws.{stands-append}
 use Rattle.number.specs.BigEndian.{be}
 use Rattle.number.specs.Row.{encs}
 use Rattle.number.specs.Limits.{unicodeMax}
 use Rattle.number.proofs.BigEndianLaws.{be-front, be-back}
 use Rattle.number.proofs.RowLaws.{length-encs, be-encs-fits}
-use Rattle.number.proofs.StandsLaws.{be-stands}
 use Rattle.format12.specs.declared.Group.{Group}
-use Rattle.format12.specs.Format12.{consecutive, groupOf, grouped, groups, fields, tableLength, header, table, format12}
+use Rattle.format12.specs.Format12.{consecutive, group, groupOf, grouped, groups, fields, tableLength, header, table, format12}
 use Rattle.format12.proofs.GroupsLaws.{last-joined}
-use Rattle.format12.proofs.WalkLaws.{length-fields}
-use Rattle.format12.proofs.TableLaws.{length-header, length-table}
-use Rattle.format12_lookup.specs.Lookup.{Above, above-none, above-more, groupAt, HeaderAt}
+use Rattle.format12.proofs.TableLaws.{length-header}
+use Rattle.source.specs.Fields.{startCharCode, endCharCode, startGlyphID}
+use Rattle.format12_lookup.specs.Lookup.{Above, above-none, above-more}
 use Rattle.format12_lookup.proofs.LookupLaws.{above-first, row-rest}
 
 -- ---- numbers that fit four bytes
@@ -81,39 +79,40 @@ fields-at (g ∷ gs) (suc k) d h =
     let t = fields-at gs k d (omega arith) in
     rw e (record { start = t .start; end = t .end; glyph = t .glyph })
 
-module _ (front back : List ℕ) (format language : ℕ) (gs : List Group) where
-  entry-at : (j at : ℕ) → at ≡ length front + (16 + 4 * j) → j < length (fields gs) → getD (fields gs) j 0 < 256 ^ 4
-      → be 4 (front ++ (table format language gs ++ back)) at ≡ getD (fields gs) j 0
-  unfolding table
-  entry-at j at e l h =
-      let hd = header format language (length gs) in
-      let b = encs 4 (fields gs) in
-      let p : 16 + 4 * j ≡ length hd + 4 * j = omega (arith, length-header format language (length gs)) in
-      be-stands (stands-append front (hd ++ b) back) 4 (16 + 4 * j) at e (rw (length-append hd b) (omega (arith, length-header format language (length gs), length-encs 4 (fields gs), l)))
-      ∙ rw p (be-back 4 hd b (4 * j) ∙ be-encs-fits 4 (fields gs) j h)
+abbrev pub groupAt : List ℕ → ℕ → ℕ → Group
+groupAt xs at k = group (startCharCode xs at k) (endCharCode xs at k) (startGlyphID xs at k)
 
-  table-group : Fit (fields gs) → (k : ℕ) (d : Group) → k < length gs → groupAt (front ++ (table format language gs ++ back)) (length front) k ≡ getD gs k d
+module _ (format language : ℕ) (gs : List Group) where
+  entry-at : (j at : ℕ) → at ≡ 16 + 4 * j → getD (fields gs) j 0 < 256 ^ 4 → be 4 (table format language gs) at ≡ getD (fields gs) j 0
+  unfolding table
+  entry-at j at e h =
+      let hd = header format language (length gs) in
+      let p : at ≡ length hd + 4 * j = omega (arith, e, length-header format language (length gs)) in
+      rw p (be-back 4 hd (encs 4 (fields gs)) (4 * j) ∙ be-encs-fits 4 (fields gs) j h)
+
+  table-group : Fit (fields gs) → (k : ℕ) (d : Group) → k < length gs → groupAt (table format language gs) 0 k ≡ getD gs k d
   table-group f k d h =
       let t = fields-at gs k d h in
-      let m = length-fields gs in
-      let a = length front in
       rw (
-        entry-at (3 * k) (a + 16 + 12 * k) (omega arith) (omega (arith, m, h)) (f .each (3 * k)) ∙ t .start,
-        entry-at (suc (3 * k)) (a + 20 + 12 * k) (omega arith) (omega (arith, m, h)) (f .each (suc (3 * k))) ∙ t .end,
-        entry-at (suc (suc (3 * k))) (a + 24 + 12 * k) (omega arith) (omega (arith, m, h)) (f .each (suc (suc (3 * k)))) ∙ t .glyph,
+        entry-at (3 * k) (0 + 16 + 12 * k) (omega arith) (f .each (3 * k)) ∙ t .start,
+        entry-at (suc (3 * k)) (0 + 20 + 12 * k) (omega arith) (f .each (suc (3 * k))) ∙ t .end,
+        entry-at (suc (suc (3 * k))) (0 + 24 + 12 * k) (omega arith) (f .each (suc (suc (3 * k)))) ∙ t .glyph,
       )
+
+pub format12-group : (language : ℕ) (ps : List Pair) → Above 0 ps → (k : ℕ) (d : Group) → k < length (groups ps) → groupAt (format12 language ps) 0 k ≡ getD (groups ps) k d
+format12-group language ps a = table-group 12 language (groups ps) (groups-fit ps a)
 
 -- ---- the header
 
 module _ (format language n : ℕ) (rest : List ℕ) where
-  header-format : format < 65536 → be 2 (header format language n ++ rest) 0 ≡ format
+  pub header-format : format < 65536 → be 2 (header format language n ++ rest) 0 ≡ format
   unfolding header
   header-format h =
       be-front 2 (encs 2 (format ∷ 0 ∷ []) ++ encs 4 (tableLength n ∷ language ∷ n ∷ [])) rest 0 (rw (length-append (encs 2 (format ∷ 0 ∷ [])) (encs 4 (tableLength n ∷ language ∷ n ∷ [])), length-encs 2 (format ∷ 0 ∷ [])) (omega arith))
       ∙ be-front 2 (encs 2 (format ∷ 0 ∷ [])) (encs 4 (tableLength n ∷ language ∷ n ∷ [])) 0 (rw (length-encs 2 (format ∷ 0 ∷ [])) (omega arith))
       ∙ be-encs-fits 2 (format ∷ 0 ∷ []) 0 h
 
-  header-number : (k at : ℕ) → k < 3 → at ≡ 4 + 4 * k → getD (tableLength n ∷ language ∷ n ∷ []) k 0 < 256 ^ 4
+  pub header-number : (k at : ℕ) → k < 3 → at ≡ 4 + 4 * k → getD (tableLength n ∷ language ∷ n ∷ []) k 0 < 256 ^ 4
       → be 4 (header format language n ++ rest) at ≡ getD (tableLength n ∷ language ∷ n ∷ []) k 0
   unfolding header
   header-number k at l e h =
@@ -121,26 +120,3 @@ module _ (format language n : ℕ) (rest : List ℕ) where
       let p : at ≡ length (encs 2 (format ∷ 0 ∷ [])) + 4 * k = omega (arith, e, length-encs 2 (format ∷ 0 ∷ [])) in
       be-front 4 (encs 2 (format ∷ 0 ∷ []) ++ encs 4 ns) rest at (rw (length-append (encs 2 (format ∷ 0 ∷ [])) (encs 4 ns), length-encs 2 (format ∷ 0 ∷ []), length-encs 4 ns) (omega (arith, e, l)))
       ∙ rw p (be-back 4 (encs 2 (format ∷ 0 ∷ [])) (encs 4 ns) (4 * k) ∙ be-encs-fits 4 ns k h)
-
--- ---- the subtable of the pairs, between other bytes
-
-module _ (front back : List ℕ) (language : ℕ) (ps : List Pair) where
-  pub format12-group : Above 0 ps → (k : ℕ) (d : Group) → k < length (groups ps) → groupAt (front ++ (format12 language ps ++ back)) (length front) k ≡ getD (groups ps) k d
-  format12-group a = table-group front back 12 language (groups ps) (groups-fit ps a)
-
-  pub format12-header : language < 4294967296 → Above 0 ps
-      → HeaderAt (front ++ (format12 language ps ++ back)) (length front) 12 (tableLength (length (groups ps))) language (length (groups ps))
-  unfolding table
-  format12-header l above =
-      let m = groups-few ps above in
-      let n = length (groups ps) in
-      let b = encs 4 (fields (groups ps)) in
-      let st = stands-append front (format12 language ps) back in
-      let a = length front in
-      let e = length-table 12 language (groups ps) in
-      record {
-        format-is = be-stands st 2 0 a (omega arith) (omega (arith, e)) ∙ header-format 12 language n b (omega arith);
-        length-is = be-stands st 4 4 (a + 4) refl (omega (arith, e)) ∙ header-number 12 language n b 0 4 (omega arith) (omega arith) (omega (arith, m));
-        language-is = be-stands st 4 8 (a + 8) refl (omega (arith, e)) ∙ header-number 12 language n b 1 8 (omega arith) (omega arith) (omega (arith, l));
-        count-is = be-stands st 4 12 (a + 12) refl (omega (arith, e)) ∙ header-number 12 language n b 2 12 (omega arith) (omega arith) (omega (arith, m));
-      }

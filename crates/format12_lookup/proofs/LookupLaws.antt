@@ -6,11 +6,11 @@ use native.Mathlib.Omega.{arith}
 use borrow.Author.Tests.{le-leb, lt-leb, eq-eqb, ne-eqb}
 use lib.Dec.{leb}
 use lib.ListN.{length, getD}
-use Rattle.laws.specs.Choice.{pick, ifLt, ifLe}
+use Rattle.laws.specs.Choice.{pick, ifLt}
 use Rattle.laws.specs.Lists.{Pair, pairs, Rising}
 use Rattle.laws.specs.Listed.{listed}
 use Rattle.laws.specs.Pieces.{concat}
-use Rattle.laws.proofs.ChoiceLaws.{by-leb, if-lt, else-lt, if-le}
+use Rattle.laws.proofs.ChoiceLaws.{by-leb, if-lt, else-lt}
 use Rattle.laws.proofs.RisingLaws.{rising-tail}
 use Rattle.laws.proofs.PiecesLaws.{Joined, lone, more, concat-pieces}
 use Rattle.laws.proofs.PartedLaws.{Parted, parted-none, parted-last, parted-more, pieces-parted}
@@ -18,11 +18,26 @@ use Rattle.number.specs.Limits.{unicodeMax}
 use Rattle.format12.specs.declared.Group.{Group}
 use Rattle.format12.specs.Format12.{consecutive, group, groupOf, grouped, groups}
 use Rattle.format12.proofs.GroupsLaws.{consecutive-next, joined-level, last-joined}
-use Rattle.format12_lookup.specs.Lookup.{inGroup, lookupIn, Above, above-none, above-more}
+use Rattle.lookup.specs.declared.Found.{Found}
+use Rattle.lookup.specs.declared.Found.the-variants.{Nothing, Glyph}
+use Rattle.format12_lookup.specs.Lookup.{Above, above-none, above-more}
+
+-- ---- a lookup in a list of groups
+
+-- what a group whose end is at least c gives
+unfoldable pub inGroup : Group → ℕ → Found
+inGroup g c =
+    let there = g .glyph + (c - g .start) in
+    ifLt c (g .start) Nothing (ifLt 65535 there Nothing (Glyph there))
+
+-- the first group whose end is at least c
+unfoldable pub lookupIn : List Group → ℕ → Found
+lookupIn [] c = Nothing
+lookupIn (g ∷ gs) c = let r = lookupIn gs c in pick (leb c (g .end)) (inGroup g c) r
 
 -- ---- rising pairs
 
--- two columns of the sizes that 01 asks for
+-- two columns of code points and glyphs within their limits
 pub above-pairs : (lo : ℕ) (cs gs : List ℕ) → Rising cs → (0 < length cs → lo ≤ getD cs 0 0) → ((k : ℕ) → getD cs k 0 ≤ unicodeMax) → ((k : ℕ) → getD gs k 0 ≤ 65535) → Above lo (pairs cs gs)
 above-pairs lo [] gs r l m n = above-none
 above-pairs lo (c ∷ cs) [] r l m n = above-none
@@ -46,61 +61,61 @@ pub row-rest : {lo : ℕ} {x l : Pair} {xs rest : List Pair} → Joined consecut
 row-rest lone a = let f = above-first a in record { low = omega arith; high = f .high; glyph = f .glyph; rest = f .rest }
 row-rest (more e j) a = row-rest j (above-first a .rest)
 
-module _ {A : Type 0} (none : A) (glyph : ℕ → A) (c : ℕ) where
-  listed-below : {lo : ℕ} {ps : List Pair} → Above lo ps → c < lo → listed none glyph ps c ≡ none
+module _ (c : ℕ) where
+  listed-below : {lo : ℕ} {ps : List Pair} → Above lo ps → c < lo → listed Nothing Glyph ps c ≡ Nothing
   unfolding listed
   listed-below above-none h = refl
   listed-below (above-more {p} a b d r) h = rw (ne-eqb (p .0) c (λ e. omega arith)) (listed-below r (omega arith))
 
   -- past a row
-  row-past : {x l : Pair} {xs : List Pair} (rest : List Pair) → Joined consecutive x xs l → l .0 < c → listed none glyph ((x ∷ xs) ++ rest) c ≡ listed none glyph rest c
+  row-past : {x l : Pair} {xs : List Pair} (rest : List Pair) → Joined consecutive x xs l → l .0 < c → listed Nothing Glyph ((x ∷ xs) ++ rest) c ≡ listed Nothing Glyph rest c
   unfolding listed
   row-past {x} rest lone h = rw (ne-eqb (x .0) c (λ e. omega arith))
   row-past {x} rest (more e j) h = rw (ne-eqb (x .0) c (λ d. omega (arith, joined-level (more e j) .up, h, d))) (row-past rest j h)
 
   -- in a row
-  row-in : {x l : Pair} {xs : List Pair} (rest : List Pair) → Joined consecutive x xs l → x .0 ≤ c → c ≤ l .0 → listed none glyph ((x ∷ xs) ++ rest) c ≡ glyph (x .1 + (c - x .0))
+  row-in : {x l : Pair} {xs : List Pair} (rest : List Pair) → Joined consecutive x xs l → x .0 ≤ c → c ≤ l .0 → listed Nothing Glyph ((x ∷ xs) ++ rest) c ≡ Glyph (x .1 + (c - x .0))
   unfolding listed
   row-in {x} rest lone a b =
       let e : x .1 ≡ x .1 + (c - x .0) = omega arith in
-      rw (eq-eqb (x .0) c (omega arith)) (ap glyph e)
+      rw (eq-eqb (x .0) c (omega arith)) (ap Glyph e)
   row-in {x} {l} rest (more {y} {ys} e j) a b =
       let n = consecutive-next x y e in
-      by-leb (listed none glyph ((x ∷ y ∷ ys) ++ rest) c ≡ glyph (x .1 + (c - x .0))) c (x .0)
-      (λ h. let d : x .1 ≡ x .1 + (c - x .0) = omega (arith, h) in rw (eq-eqb (x .0) c (omega (arith, a, h))) (ap glyph d))
-      (λ h. let d : y .1 + (c - y .0) ≡ x .1 + (c - x .0) = omega (arith, n .code, n .glyph, h) in rw (ne-eqb (x .0) c (λ q. omega (arith, h, q))) (row-in rest j (omega (arith, n .code, h)) b ∙ ap glyph d))
+      by-leb (listed Nothing Glyph ((x ∷ y ∷ ys) ++ rest) c ≡ Glyph (x .1 + (c - x .0))) c (x .0)
+      (λ h. let d : x .1 ≡ x .1 + (c - x .0) = omega (arith, h) in rw (eq-eqb (x .0) c (omega (arith, a, h))) (ap Glyph d))
+      (λ h. let d : y .1 + (c - y .0) ≡ x .1 + (c - x .0) = omega (arith, n .code, n .glyph, h) in rw (ne-eqb (x .0) c (λ q. omega (arith, h, q))) (row-in rest j (omega (arith, n .code, h)) b ∙ ap Glyph d))
 
   -- in a row or before it
   row-group : {lo : ℕ} {x l : Pair} {xs : List Pair} (rest : List Pair) → Joined consecutive x xs l → Above lo ((x ∷ xs) ++ rest) → c ≤ l .0
-      → inGroup none glyph (group (x .0) (l .0) (x .1)) c ≡ listed none glyph ((x ∷ xs) ++ rest) c
+      → inGroup (group (x .0) (l .0) (x .1)) c ≡ listed Nothing Glyph ((x ∷ xs) ++ rest) c
   unfolding inGroup
   row-group {lo} {x} {l} {xs} rest j a h =
       let f = above-first a in
       let v = joined-level j in
       let t = row-rest j a in
       let there = x .1 + (c - x .0) in
-      by-leb (ifLt c (x .0) none (ifLe there 65535 (glyph there) none) ≡ listed none glyph ((x ∷ xs) ++ rest) c) (x .0) c
-      (λ k. sym (else-lt c (x .0) none (ifLe there 65535 (glyph there) none) k (if-le there 65535 (glyph there) none (omega (arith, v .same, v .up, t .glyph, h, k)) (row-in rest j k h))))
-      (λ k. sym (if-lt c (x .0) none (ifLe there 65535 (glyph there) none) k (listed-below (above-more {lo = x .0} (omega arith) (f .high) (f .glyph) (f .rest)) k)))
+      by-leb (ifLt c (x .0) Nothing (ifLt 65535 there Nothing (Glyph there)) ≡ listed Nothing Glyph ((x ∷ xs) ++ rest) c) (x .0) c
+      (λ k. sym (else-lt c (x .0) Nothing (ifLt 65535 there Nothing (Glyph there)) k (else-lt 65535 there Nothing (Glyph there) (omega (arith, v .same, v .up, t .glyph, h, k)) (row-in rest j k h))))
+      (λ k. sym (if-lt c (x .0) Nothing (ifLt 65535 there Nothing (Glyph there)) k (listed-below (above-more {lo = x .0} (omega arith) (f .high) (f .glyph) (f .rest)) k)))
 
   -- one group more
   row-found : {lo : ℕ} {x l : Pair} {xs : List Pair} (rest : List Pair) (gs : List Group) → Joined consecutive x xs l → Above lo ((x ∷ xs) ++ rest)
-      → lookupIn none glyph gs c ≡ listed none glyph rest c → lookupIn none glyph (groupOf (x ∷ xs) ∷ gs) c ≡ listed none glyph ((x ∷ xs) ++ rest) c
+      → lookupIn gs c ≡ listed Nothing Glyph rest c → lookupIn (groupOf (x ∷ xs) ∷ gs) c ≡ listed Nothing Glyph ((x ∷ xs) ++ rest) c
   unfolding lookupIn
   row-found {lo} {x} {l} {xs} rest gs j a e =
       rw (last-joined j)
-      (by-leb (pick (leb c (l .0)) (inGroup none glyph (group (x .0) (l .0) (x .1)) c) (lookupIn none glyph gs c) ≡ listed none glyph ((x ∷ xs) ++ rest) c) c (l .0)
+      (by-leb (pick (leb c (l .0)) (inGroup (group (x .0) (l .0) (x .1)) c) (lookupIn gs c) ≡ listed Nothing Glyph ((x ∷ xs) ++ rest) c) c (l .0)
       (λ h. rw (le-leb c (l .0) h) (row-group rest j a h))
       (λ h. rw (lt-leb c (l .0) h) (e ∙ sym (row-past rest j h))))
 
-  rows-found : {lo : ℕ} {rows : List (List Pair)} → Parted consecutive rows → Above lo (concat rows) → lookupIn none glyph (map groupOf rows) c ≡ listed none glyph (concat rows) c
+  rows-found : {lo : ℕ} {rows : List (List Pair)} → Parted consecutive rows → Above lo (concat rows) → lookupIn (map groupOf rows) c ≡ listed Nothing Glyph (concat rows) c
   unfolding concat lookupIn listed
   rows-found parted-none a = refl
   rows-found (parted-last j) a = row-found [] [] j a refl
   rows-found (parted-more {y} {ys} {ps} j d p) a = row-found ((y ∷ ys) ++ concat ps) (map groupOf ((y ∷ ys) ∷ ps)) j a (rows-found p (row-rest j a .rest))
 
   -- every number: the listed glyph, or nothing
-  pub lookup-groups : {ps : List Pair} → Above 0 ps → lookupIn none glyph (groups ps) c ≡ listed none glyph ps c
+  pub lookup-groups : {ps : List Pair} → Above 0 ps → lookupIn (groups ps) c ≡ listed Nothing Glyph ps c
   unfolding grouped
   lookup-groups {ps} a =
       rw (concat-pieces consecutive ps) at (rows-found {lo = 0} (pieces-parted consecutive ps) (rw (concat-pieces consecutive ps) a))

@@ -17,7 +17,7 @@ use Rattle.laws.proofs.ListedLaws.{listed-ap, listed-none, listed-nth, listed-a
 use Rattle.laws.proofs.StandsLaws.{Stands, stands-append, stands-sets}
 use Rattle.ranges.specs.Cutting.{segments, glyphArray}
 use Rattle.ranges.proofs.CuttingLaws.{length-array}
-use Rattle.source.specs.Kind.{lengthOf}
+use Rattle.source.proofs.KindLaws.{lengthOf}
 use Rattle.source.specs.Fields.{arrayEntries, glyphIdArray}
 use Rattle.lookup.specs.declared.Found.the-variants.{Nothing, Glyph}
 use Rattle.lookup.specs.Lookup.{find4, lookup4, glyphOf}

@@ -12,7 +12,7 @@ use Rattle.ranges.specs.Cutting.{segments, glyphArray}
 use Rattle.ranges.proofs.CuttingLaws.{segments-some}
 use Rattle.source.specs.declared.Kind.the-variants.{Format4}
 use Rattle.source.specs.Kind as source
-use Rattle.source.proofs.KindLaws.{gives4, Readable4}
+use Rattle.source.proofs.KindLaws.{gives4, Readable4, lengthOf}
 use Rattle.source.proofs.StandsLaws.{kind-stands}
 use Rattle.format4.specs.Format4.{lengthWith, header, format4}
 use Rattle.format4.specs.declared.RangeCounter.{RangeCounter}
@@ -45,7 +45,6 @@ module _ (language : ℕ) (ps : List Pair) where
         language = sym tongue;
         segments = omega arith;
         long = sym long;
-        header = omega arith;
         four = four;
         even = omega arith;
         some = some;
@@ -59,7 +58,7 @@ module _ (language : ℕ) (ps : List Pair) where
   -- wherever it stands
   module _ {xs : List ℕ} {at : ℕ} (st : Stands xs at T) (w : Written language ps) where
     pub format4-kind-stands : source.kindAt xs at ≡ Format4 language S (length T)
-    format4-kind-stands = kind-stands st (omega (arith, length-format4 language ps)) (ap source.lengthOf (format4-kind w)) ∙ format4-kind w
+    format4-kind-stands = kind-stands st (omega (arith, length-format4 language ps)) (ap lengthOf (format4-kind w)) ∙ format4-kind w
 
   pub format4-kind-between : (front back : List ℕ) → Written language ps → source.kindAt (front ++ (T ++ back)) (length front) ≡ Format4 language S (length T)
   format4-kind-between front back w = format4-kind-stands (stands-append front T back) w

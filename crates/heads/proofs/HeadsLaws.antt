@@ -14,10 +14,11 @@ use Rattle.source.specs.declared.Header.{Header}
 use Rattle.source.specs.declared.Header.the-variants.{Records, Refused as Rejected}
 use Rattle.source.specs.Header.{refused5, recordCount, headerOf, offsetOf}
 use Rattle.source.proofs.HeaderLaws.{Accepted, not-refused, tells-records, tells-refused}
+use Rattle.records.specs.Records.{leadsToFormat}
 use Rattle.lookup.specs.Lookup.{lookup4, lookup12, glyphOf}
 use Rattle.heads.specs.declared.Answer.{Answer}
 use Rattle.heads.specs.declared.Answer.the-variants.{Glyph, Refused}
-use Rattle.heads.specs.Heads.{leadsTo, oldOf, newOf, byRecords, oldHead, newHead, numberOf}
+use Rattle.heads.specs.Heads.{oldOf, newOf, byRecords, oldHead, newHead, numberOf}
 
 -- ---- by the header
 
@@ -42,30 +43,30 @@ pub ruleset by-header = (head-accepted, head-refused)
 -- ---- an accepted table of n records: the first that leads to the format is k, or there is none
 
 module _ (xs : List ℕ) (n : ℕ) (a : Accepted xs n) (c : ℕ) where
-  pub old-first : (k : ℕ) → k < n → leadsTo xs 4 k ≡ true → ((j : ℕ) → j < k → leadsTo xs 4 j ≡ false)
+  pub old-first : (k : ℕ) → k < n → leadsToFormat 4 xs k ≡ true → ((j : ℕ) → j < k → leadsToFormat 4 xs j ≡ false)
       → oldHead xs c ≡ Glyph (glyphOf (lookup4 xs (offsetOf xs k) c))
   unfolding oldOf
   old-first k h e miss =
-      let f = first-is (leadsTo xs 4) n k h e miss in
+      let f = first-is (leadsToFormat 4 xs) n k h e miss in
       by-accepted xs (oldOf xs c) a ∙ rw f (sym (if-lt k n _ _ h refl))
 
-  pub new-first : (k : ℕ) → k < n → leadsTo xs 12 k ≡ true → ((j : ℕ) → j < k → leadsTo xs 12 j ≡ false)
+  pub new-first : (k : ℕ) → k < n → leadsToFormat 12 xs k ≡ true → ((j : ℕ) → j < k → leadsToFormat 12 xs j ≡ false)
       → newHead xs c ≡ Glyph (glyphOf (lookup12 xs (offsetOf xs k) c))
   unfolding newOf
   new-first k h e miss =
-      let f = first-is (leadsTo xs 12) n k h e miss in
+      let f = first-is (leadsToFormat 12 xs) n k h e miss in
       by-accepted xs (newOf xs c) a ∙ rw f (sym (if-lt k n _ _ h refl))
 
-  pub new-as-old : ((j : ℕ) → j < n → leadsTo xs 12 j ≡ false) → newHead xs c ≡ oldHead xs c
+  pub new-as-old : ((j : ℕ) → j < n → leadsToFormat 12 xs j ≡ false) → newHead xs c ≡ oldHead xs c
   unfolding newOf
   new-as-old miss =
-      let f = first-past (leadsTo xs 12) n miss in
+      let f = first-past (leadsToFormat 12 xs) n miss in
       by-accepted xs (newOf xs c) a ∙ rw f (sym (else-lt n n _ _ (omega arith) refl)) ∙ sym (by-accepted xs (oldOf xs c) a)
 
-  pub old-none : ((j : ℕ) → j < n → leadsTo xs 4 j ≡ false) → oldHead xs c ≡ Refused 11
+  pub old-none : ((j : ℕ) → j < n → leadsToFormat 4 xs j ≡ false) → oldHead xs c ≡ Refused 11
   unfolding oldOf
   old-none miss =
-      let f = first-past (leadsTo xs 4) n miss in
+      let f = first-past (leadsToFormat 4 xs) n miss in
       by-accepted xs (oldOf xs c) a ∙ rw f (sym (else-lt n n _ _ (omega arith) refl))
 
 -- ---- a head's number is 0, 5 or 11

@@ -1,30 +1,24 @@
 -- What the old and the new print head give for a code point (docs/01-rules.md, "Heads" and "Numbers of refusal").
 use Prim.Native.Nat.{ℕ}
 use mathlib.Core.List.{List}
-use mathlib.Core.Bool.{Bool}
-use lib.Dec.{eqb}
 use Rattle.laws.specs.Choice.{pick, ifLt}
 use Rattle.laws.specs.Search.{first}
 use Rattle.source.specs.Header.{refused5, recordCount, offsetOf}
-use Rattle.source.specs.Kind.{kindAt, formatOf}
+use Rattle.records.specs.Records.{leadsToFormat}
 use Rattle.lookup.specs.Lookup.{lookup4, lookup12, glyphOf}
 use Rattle.heads.specs.declared.Answer.{Answer}
 use Rattle.heads.specs.declared.Answer.the-variants.{Glyph, Refused}
 
--- record k leads to a readable subtable of that format
-abbrev pub leadsTo : List ℕ → ℕ → ℕ → Bool
-leadsTo xs format k = eqb (formatOf (kindAt xs (offsetOf xs k))) format
-
 -- old: the first of the n records that leads to a readable format 4 answers; 11 if there is none
 unfoldable pub oldOf : List ℕ → ℕ → ℕ → Answer
 oldOf xs c n =
-    let k = first (leadsTo xs 4) n 0 in
+    let k = first (leadsToFormat 4 xs) n 0 in
     ifLt k n (Glyph (glyphOf (lookup4 xs (offsetOf xs k) c))) (Refused 11)
 
 -- new: the first that leads to a readable format 12; as old if there is none
 unfoldable pub newOf : List ℕ → ℕ → ℕ → Answer
 newOf xs c n =
-    let k = first (leadsTo xs 12) n 0 in
+    let k = first (leadsToFormat 12 xs) n 0 in
     ifLt k n (Glyph (glyphOf (lookup12 xs (offsetOf xs k) c))) (oldOf xs c n)
 
 -- 5 comes first; then the records that the header counts answer

@@ -3,7 +3,8 @@ ghost use mathlib.Core.Path.{_≡_};
 ghost use Prim.Native.Nat.{_+_, _*_, _≤_};
 ghost use lib.ListN.{length};
 ghost use Rattle.laws.specs.Search.{first};
-ghost use Rattle.heads.specs.Heads.{leadsTo, oldOf, newOf, oldHead, newHead};
+ghost use Rattle.records.specs.Records.{leadsToFormat};
+ghost use Rattle.heads.specs.Heads.{oldOf, newOf, oldHead, newHead};
 
 // A glyph, or the number of a refusal: 5 or 11.
 pub enum Answer {
@@ -11,22 +12,14 @@ pub enum Answer {
     Refused(u8),
 }
 
-// Whether record k leads to a readable subtable of the format.
-fn leads_to(s: &[u8], format: u32, k: usize) -> bool
-    requires { ⌜ 12 + 8 * k ≤ length (now s) ⌝ }
-    ensures { λ r. ⌜ r ≡ leadsTo (now (s .entry)) format k ⌝ }
-{
-    source::format_of(source::kind_at(s, source::offset_of(s, k))) == format
-}
-
 // The first of the n records that leads to a readable subtable of the format; n where none does.
 fn first_record(s: &[u8], format: u32, n: usize) -> usize
     requires { ⌜ 4 + 8 * n ≤ length (now s) ⌝ }
-    ensures { λ r. ⌜ r ≡ first (leadsTo (now (s .entry)) format) n 0 ⌝ }
+    ensures { λ r. ⌜ r ≡ first (leadsToFormat format (now (s .entry))) n 0 ⌝ }
 {
     let mut i = 0;
     while i < n {
-        if leads_to(s, format, i) {
+        if records::leads_to_format(s, i, format) {
             return i;
         }
         i += 1;

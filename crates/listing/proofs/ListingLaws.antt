@@ -1,5 +1,5 @@
 -- What the kind of a subtable says of the points it maps, and the listed pairs as two columns.
-use Prim.Native.Nat.{ℕ}
+use Prim.Native.Nat.{ℕ, _<_}
 use mathlib.Core.Path.{_≡_, sym, ap, _∙_}
 use mathlib.Core.List.{List}
 use mathlib.Core.Bool.{Bool}
@@ -15,26 +15,23 @@ use Rattle.source.specs.declared.Kind.the-variants.{Format4, Format12, Format14
 use Rattle.source.specs.declared.EncodingRecord.{EncodingRecord}
 use Rattle.source.specs.Header.{recordOf}
 use Rattle.source.specs.Kind.{kindAt}
+use Rattle.source.specs.Room.{Room4, Room12}
 use Rattle.records.specs.Records.{leadsTo}
 use Rattle.source.proofs.KindLaws.{room4, room12}
 use Rattle.marks.specs.Marks.{flagged, kept, Flags}
 use Rattle.marks.proofs.MarksLaws.{flagged-none, kept-sets}
-use Rattle.mapped4.specs.Mapped4.{maps4, Room4}
-use Rattle.mapped12.specs.Mapped12.{maps12, Room12}
+use Rattle.mapped4.specs.Mapped4.{maps4}
+use Rattle.mapped12.specs.Mapped12.{maps12}
 use Rattle.listing.specs.Listing.{mapsAs, maps, listed, codesOf, glyphsOf, Asked, Beside, Columns}
 
 -- ---- by kind
 
 module _ (kind : Kind) (xs : List ℕ) (at n : ℕ) (ps fs : List ℕ) (a : Asked kind xs at n ps fs) where
   pub asked4 : {l s len : ℕ} → Bytes xs → kind ≡ Format4 l s len → Room4 xs at s len × Flags ps fs
-  asked4 b e =
-      let r = room4 xs at b (sym (a .found) ∙ e) in
-      (record { room = r .room; fits = r .fits; small = r .small }, a .flagged)
+  asked4 b e = (room4 xs at b (sym (a .found) ∙ e), a .flagged)
 
-  pub asked12 : {l g len : ℕ} → kind ≡ Format12 l g len → Room12 xs at g n × Flags ps fs
-  asked12 e =
-      let r = room12 xs at (sym (a .found) ∙ e) in
-      (record { fits = omega (arith, r .room, r .fits); glyphs = a .glyphs }, a .flagged)
+  pub asked12 : {l g len : ℕ} → kind ≡ Format12 l g len → Room12 xs at g × ((n < 65536) × Flags ps fs)
+  asked12 e = (room12 xs at (sym (a .found) ∙ e), (a .glyphs, a .flagged))
 
 module _ (kind : Kind) (xs : List ℕ) (at n : ℕ) (ps fs gs : List ℕ) where
   pub flags4 : (l s len : ℕ) → kind ≡ Format4 l s len → gs ≡ sets fs 0 (flagged (maps4 xs at s len) ps) → gs ≡ sets fs 0 (flagged (mapsAs kind xs at n) ps)

@@ -9,7 +9,7 @@ ghost use Rattle.marks.specs.Marks.{flagged};
 ghost use Rattle.listing.specs.Listing.{mapsAs, maps, listed, codesOf, glyphsOf, Asked, Beside, Columns};
 
 // Sets the flag of each point to whether the subtable of that kind maps it.
-pub fn collect_unicodes(s: &[u8], at: usize, kind: Kind, n: u32, points: &[u32], flags: &mut [u8])
+fn collect_unicodes(s: &[u8], at: usize, kind: Kind, n: u32, points: &[u32], flags: &mut [u8])
     requires { ⌜ Asked kind (now s) at n (now points) (now flags) ⌝ }
     ensures { λ _. ⌜ now (flags .exit) ≡ sets (now (flags .entry)) 0 (flagged (mapsAs kind (now (s .entry)) at n) (now (points .entry))) ⌝ }
 {
@@ -44,7 +44,7 @@ pub fn collect_record(s: &[u8], k: usize, n: u32, points: &[u32], flags: &mut [u
 }
 
 // Copies the pairs whose code points the subtable maps to the front of the lent columns; how many.
-pub fn list_pairs(
+fn list_pairs(
     s: &[u8],
     at: usize,
     kind: Kind,

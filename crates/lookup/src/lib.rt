@@ -86,8 +86,8 @@ fn find4_in(s: &[u8], at: usize, segments: usize, length: usize, c: u32) -> Foun
 }
 
 // The first group whose end is at least c; `groups` where there is none.
-fn first_group(s: &[u8], at: usize, groups: usize, length: usize, c: u32) -> usize
-    requires { ⌜ Room12 (now s) at groups length ⌝ }
+fn first_group(s: &[u8], at: usize, groups: usize, c: u32) -> usize
+    requires { ⌜ Room12 (now s) at groups ⌝ }
     ensures { λ r. ⌜ r ≡ first (reaches (endCharCode (now (s .entry)) at) c) groups 0 ⌝ }
 {
     let mut i = 0;
@@ -101,8 +101,8 @@ fn first_group(s: &[u8], at: usize, groups: usize, length: usize, c: u32) -> usi
 }
 
 // The answer of group i. The sum is taken in 64 bits, where it cannot wrap.
-fn in_group(s: &[u8], at: usize, groups: usize, length: usize, i: usize, c: u32) -> Found
-    requires { ⌜ Room12 (now s) at groups length ⌝ }
+fn in_group(s: &[u8], at: usize, groups: usize, i: usize, c: u32) -> Found
+    requires { ⌜ Room12 (now s) at groups ⌝ }
     requires { ⌜ i < groups ⌝ }
     ensures { λ r. ⌜ r ≡ inGroup (now (s .entry)) at i c ⌝ }
 {
@@ -118,13 +118,13 @@ fn in_group(s: &[u8], at: usize, groups: usize, length: usize, i: usize, c: u32)
     Found::Glyph(glyph as u32)
 }
 
-fn find12_in(s: &[u8], at: usize, groups: usize, length: usize, c: u32) -> Found
-    requires { ⌜ Room12 (now s) at groups length ⌝ }
+fn find12_in(s: &[u8], at: usize, groups: usize, c: u32) -> Found
+    requires { ⌜ Room12 (now s) at groups ⌝ }
     ensures { λ r. ⌜ r ≡ find12 (now (s .entry)) at groups c ⌝ }
 {
-    let i = first_group(s, at, groups, length, c);
+    let i = first_group(s, at, groups, c);
     if i < groups {
-        return in_group(s, at, groups, length, i, c);
+        return in_group(s, at, groups, i, c);
     }
     Found::Nothing
 }
@@ -165,8 +165,8 @@ pub fn lookup12(s: &[u8], at: usize, c: u32) -> Found
         source::Kind::Format12 {
             language: _,
             groups,
-            length,
-        } => find12_in(s, at, groups, length, c),
+            length: _,
+        } => find12_in(s, at, groups, c),
         source::Kind::Format14 {
             records: _,
             length: _,

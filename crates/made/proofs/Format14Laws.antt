@@ -141,7 +141,6 @@ module _ (rs : List Row) where
         record {
           records = sym many;
           long = e ∙ sym long;
-          header = omega arith;
           fourteen = fourteen;
           few = few;
           room = omega arith;

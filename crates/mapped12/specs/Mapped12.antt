@@ -1,13 +1,12 @@
 -- Which code points a format 12 subtable maps in a font of n glyphs (docs/01-rules.md, "Which code points a subtable maps").
 -- The subtable stands at `at` in xs.
-use Prim.Native.Nat.{ℕ, _+_, _*_, _-_, _<_, _≤_, min}
+use Prim.Native.Nat.{ℕ, _+_, _-_, min}
 use mathlib.Core.List.{List}
 use mathlib.Core.Bool.{Bool}
-use lib.ListN.{length}
 use Rattle.laws.specs.Choice.{ifLt, ifLe, ifEq}
 use Rattle.laws.specs.Search.{some}
-use Rattle.number.specs.BigEndian.{be}
 use Rattle.number.specs.Limits.{unicodeMax}
+use Rattle.source.specs.Fields.{startCharCode, endCharCode, startGlyphID}
 use Rattle.marks.specs.Marks.{between}
 use Rattle.mapped12.specs.declared.Stretch.{Stretch}
 
@@ -26,9 +25,9 @@ unfoldable pub cut12 : ℕ → ℕ → ℕ → ℕ → Stretch
 cut12 start end glyph n =
     ifEq glyph 0 (clip12 (start + 1) (min end unicodeMax) (glyph + 1) n) (clip12 start (min end unicodeMax) glyph n)
 
--- group g: startCharCode, endCharCode and startGlyphID stand side by side
+-- those of group g
 abbrev pub group12 : List ℕ → ℕ → ℕ → ℕ → Stretch
-group12 xs at n g = cut12 (be 4 xs (at + 16 + 12 * g)) (be 4 xs (at + 20 + 12 * g)) (be 4 xs (at + 24 + 12 * g)) n
+group12 xs at n g = cut12 (startCharCode xs at g) (endCharCode xs at g) (startGlyphID xs at g) n
 
 abbrev pub stretchHolds : Stretch → ℕ → Bool
 stretchHolds t = between (t .start) (t .end)
@@ -40,8 +39,3 @@ among12 xs at n k c = some (λ g. stretchHolds (group12 xs at n g) c) k 0
 -- whether some group maps c
 unfoldable pub maps12 : List ℕ → ℕ → ℕ → ℕ → ℕ → Bool
 maps12 xs at groups n c = among12 xs at n groups c
-
--- the subtable's room in the source, and a font's glyph count
-pub record Room12 (xs : List ℕ) (at groups n : ℕ) : Type 0 where
-  pub fits : at + 16 + 12 * groups ≤ length xs
-  pub glyphs : n < 65536

@@ -6,7 +6,8 @@ ghost use lib.ListN.{length};
 ghost use lib.Seq.{sets};
 ghost use Rattle.number.specs.Limits.{unicodeMax};
 ghost use Rattle.marks.specs.Marks.{flagged, Flags, Cleared};
-ghost use Rattle.mapped12.specs.Mapped12.{Room12, clip12, cut12, group12, stretchHolds, maps12};
+ghost use Rattle.source.specs.Room.{Room12};
+ghost use Rattle.mapped12.specs.Mapped12.{clip12, cut12, group12, stretchHolds, maps12};
 
 // Code points from start to end, both included; none where start exceeds end.
 pub struct Stretch {
@@ -72,7 +73,8 @@ fn group_holds(s: &[u8], at: usize, g: usize, n: u32, c: u32) -> bool
 
 // Whether the subtable maps c.
 pub fn is_mapped12(s: &[u8], at: usize, groups: usize, n: u32, c: u32) -> bool
-    requires { ⌜ Room12 (now s) at groups n ⌝ }
+    requires { ⌜ Room12 (now s) at groups ⌝ }
+    requires { ⌜ n < 65536 ⌝ }
     ensures { λ r. ⌜ r ≡ maps12 (now (s .entry)) at groups n c ⌝ }
 {
     let mut g = 0;
@@ -87,7 +89,8 @@ pub fn is_mapped12(s: &[u8], at: usize, groups: usize, n: u32, c: u32) -> bool
 
 // The walk over the groups, from flags that are clear.
 fn mark_groups(s: &[u8], at: usize, groups: usize, n: u32, points: &[u32], flags: &mut [u8])
-    requires { ⌜ Room12 (now s) at groups n ⌝ }
+    requires { ⌜ Room12 (now s) at groups ⌝ }
+    requires { ⌜ n < 65536 ⌝ }
     requires { ⌜ Flags (now points) (now flags) ⌝ }
     requires { ⌜ Cleared (length (now points)) (now flags) ⌝ }
     ensures { λ _. ⌜ now (flags .exit) ≡ sets (now (flags .entry)) 0 (flagged (maps12 (now (s .entry)) at groups n) (now (points .entry))) ⌝ }
@@ -110,7 +113,8 @@ pub fn collect_unicodes12(
     points: &[u32],
     flags: &mut [u8],
 )
-    requires { ⌜ Room12 (now s) at groups n ⌝ }
+    requires { ⌜ Room12 (now s) at groups ⌝ }
+    requires { ⌜ n < 65536 ⌝ }
     requires { ⌜ Flags (now points) (now flags) ⌝ }
     ensures { λ _. ⌜ now (flags .exit) ≡ sets (now (flags .entry)) 0 (flagged (maps12 (now (s .entry)) at groups n) (now (points .entry))) ⌝ }
 {

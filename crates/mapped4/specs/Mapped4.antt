@@ -1,44 +1,34 @@
 -- Which code points a format 4 subtable maps (docs/01-rules.md, "Which code points a subtable maps").
 -- The subtable stands at `at` in xs, has s segments and is `len` bytes long.
-use Prim.Native.Nat.{ℕ, zero, suc, _+_, _*_, _-_, _/_, _%_, _<_, _≤_}
+use Prim.Native.Nat.{ℕ, zero, suc, _+_, _-_, _/_, _%_, _<_}
 use mathlib.Core.Path.{_≡_}
 use mathlib.Core.List.{List}
 use mathlib.Core.Bool.{Bool, false}
 use lib.Dec.{eqb, ltb}
-use lib.ListN.{length}
 use Rattle.laws.specs.Choice.{pick, ifLt, ifEq}
 use Rattle.laws.specs.Search.{first}
-use Rattle.number.specs.BigEndian.{be}
+use Rattle.source.specs.Fields.{endCode, startCode, idDelta, idRangeOffset, glyphIdArray, arrayEntries}
 use Rattle.marks.specs.Marks.{between}
 use Rattle.mapped4.specs.declared.Segment.{Segment}
 
--- segment i: endCode, startCode, idDelta and idRangeOffset stand in four rows, a pad behind the first
+-- segment i, read from the four rows
 abbrev pub segment4 : List ℕ → ℕ → ℕ → ℕ → Segment
 segment4 xs at s i =
-    record {
-      start = be 2 xs (at + 16 + 2 * s + 2 * i);
-      end = be 2 xs (at + 14 + 2 * i);
-      delta = be 2 xs (at + 16 + 4 * s + 2 * i);
-      offset = be 2 xs (at + 16 + 6 * s + 2 * i);
-    }
+    record { start = startCode xs at s i; end = endCode xs at i; delta = idDelta xs at s i; offset = idRangeOffset xs at s i }
 
 -- the walk stops before a start of 0xFFFF
 abbrev pub stops4 : List ℕ → ℕ → ℕ → ℕ → Bool
-stops4 xs at s i = eqb (segment4 xs at s i .start) 0xFFFF
+stops4 xs at s i = eqb (startCode xs at s i) 0xFFFF
 
 abbrev pub holds4 : Segment → ℕ → Bool
 holds4 g = between (g .start) (g .end)
-
--- the glyph array is the whole entries up to the length
-abbrev pub entries4 : ℕ → ℕ → ℕ
-entries4 s len = (len - (16 + 8 * s)) / 2
 
 -- the glyph array's entry for a code point `away` past its segment's start, whose own index is place - s;
 -- 0 where the start's index is negative, or this one is past the array
 unfoldable pub entry4 : List ℕ → ℕ → ℕ → ℕ → ℕ → ℕ → ℕ
 entry4 xs at s len place away =
     let index = place + away - s in
-    ifLt place s 0 (ifLt index (entries4 s len) (be 2 xs (at + 16 + 8 * s + 2 * index)) 0)
+    ifLt place s 0 (ifLt index (arrayEntries s len) (glyphIdArray xs at s index) 0)
 
 -- whether segment i maps a c that it holds: with offset 0 if the sum of c and delta is not 0; otherwise the index is
 -- offset/2 + (c - start) + i - s, and c is mapped if the entry is not 0. Delta is not added to it here.
@@ -59,12 +49,6 @@ among4 xs at s len n c =
 -- the last walked segment that holds c decides
 unfoldable pub maps4 : List ℕ → ℕ → ℕ → ℕ → ℕ → Bool
 maps4 xs at s len c = among4 xs at s len (first (stops4 xs at s) s 0) c
-
--- the subtable's room in the source
-pub record Room4 (xs : List ℕ) (at s len : ℕ) : Type 0 where
-  pub room : 16 + 8 * s ≤ len
-  pub fits : at + len ≤ length xs
-  pub small : len < 65536
 
 -- what is read of segment i, with the bounds of its numbers
 pub record Read4 (xs : List ℕ) (at s i : ℕ) (g : Segment) : Type 0 where

@@ -5,7 +5,8 @@ ghost use lib.ListN.{length};
 ghost use lib.Seq.{sets};
 ghost use Rattle.laws.specs.Choice.{pick};
 ghost use Rattle.marks.specs.Marks.{flagged, flagOf, painted, Bound, Flags, Inside, Cleared};
-ghost use Rattle.mapped4.specs.Mapped4.{Room4, Read4, entry4, says4, holds4, maps4};
+ghost use Rattle.source.specs.Room.{Room4};
+ghost use Rattle.mapped4.specs.Mapped4.{Read4, entry4, says4, holds4, maps4};
 
 pub struct Segment {
     pub start: u32,

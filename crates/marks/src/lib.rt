@@ -68,23 +68,15 @@ pub fn count_near(points: &[u32], c: u64, near: usize) -> usize
 }
 
 // How many points are below c.
-pub fn lower_bound(points: &[u32], c: u32) -> usize
+fn lower_bound(points: &[u32], c: u32) -> usize
     requires { ⌜ Rising (now points) ⌝ }
     ensures { λ r. ⌜ Bound (now (points .entry)) c r ⌝ }
 {
     count_below(points, c as u64)
 }
 
-// How many points are at most c.
-pub fn upper_bound(points: &[u32], c: u32) -> usize
-    requires { ⌜ Rising (now points) ⌝ }
-    ensures { λ r. ⌜ Bound (now (points .entry)) (c + 1) r ⌝ }
-{
-    count_below(points, c as u64 + 1)
-}
-
 // How many glyphs are below g.
-pub fn lower_bound_glyph(glyphs: &[u16], g: u16) -> usize
+fn lower_bound_glyph(glyphs: &[u16], g: u16) -> usize
     requires { ⌜ Rising (now glyphs) ⌝ }
     ensures { λ r. ⌜ Bound (now (glyphs .entry)) g r ⌝ }
 {

@@ -77,11 +77,11 @@ module _ (w : Wanted) (xs : List ℕ) (n : ℕ) where
     pub walked-on : (t : Bool) → Walked w xs n k → k < n → t ≡ both (retained xs k) (isWanted w xs k) → t ≡ false → Walked w xs n (k + 1)
     walked-on t l h q e = record { asks = asking-on _ n k t (l .asks) h q e }
 
-    pub walked-yes : (t : Bool) → Counted xs n → Walked w xs n k → k < n → t ≡ both (retained xs k) (isWanted w xs k) → t ≡ true → true ≡ someRetained w xs
+    pub walked-yes : (t : Bool) → Counted xs n → Walked w xs n k → k < n → t ≡ both (retained xs k) (isWanted w xs k) → t ≡ true → true ≡ someRetained (isWanted w) xs
     unfolding someRetained
     walked-yes t c l h q e = rw (c .is) at (asking-yes (λ i. both (retained xs i) (isWanted w xs i)) n k t (l .asks) h q e)
 
-    pub walked-no : Counted xs n → Walked w xs n k → n ≤ k → false ≡ someRetained w xs
+    pub walked-no : Counted xs n → Walked w xs n k → n ≤ k → false ≡ someRetained (isWanted w) xs
     unfolding someRetained
     walked-no c l h = rw (c .is) at (asking-no (λ i. both (retained xs i) (isWanted w xs i)) n k (l .asks) h)
 

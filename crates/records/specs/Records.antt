@@ -35,22 +35,25 @@ leadsToFormat format xs k = eqb (formatOf (leadsTo xs k)) format
 unfoldable pub retained : List ℕ → ℕ → Bool
 retained xs k = either (bmpPair xs k) (either (fullPair xs k) (leadsToFormat 14 xs k))
 
--- what 6 and 7 ask of a record: a pair counts whatever it leads to
-abbrev pub isWanted : Wanted → List ℕ → ℕ → Bool
-isWanted Format12 xs k = leadsToFormat 12 xs k
-isWanted Bmp xs k = bmpPair xs k
-isWanted Full xs k = fullPair xs k
+-- a retained record of which the test holds
+unfoldable pub someRetained : (List ℕ → ℕ → Bool) → List ℕ → Bool
+someRetained test xs = some (λ k. both (retained xs k) (test xs k)) (recordCount xs) 0
 
-unfoldable pub someRetained : Wanted → List ℕ → Bool
-someRetained wanted xs = some (λ k. both (retained xs k) (isWanted wanted xs k)) (recordCount xs) 0
-
--- 6: no retained record is format 12 and none is (0,3) or (3,1)
+-- 6: no retained record is format 12 and none is (0,3) or (3,1); a pair counts whatever it leads to
 abbrev pub refused6 : List ℕ → Bool
-refused6 xs = both (not (someRetained Format12 xs)) (not (someRetained Bmp xs))
+refused6 xs = both (not (someRetained (leadsToFormat 12) xs)) (not (someRetained bmpPair xs))
 
 -- 7: a retained record is format 12 and none is (0,4) or (3,10)
 abbrev pub refused7 : List ℕ → Bool
-refused7 xs = both (someRetained Format12 xs) (not (someRetained Full xs))
+refused7 xs = both (someRetained (leadsToFormat 12) xs) (not (someRetained fullPair xs))
+
+-- ---- what the functions ask for
+
+-- the tests of 6 and 7 by the code's names
+abbrev pub isWanted : Wanted → List ℕ → ℕ → Bool
+isWanted Format12 = leadsToFormat 12
+isWanted Bmp = bmpPair
+isWanted Full = fullPair
 
 -- record k is all there
 pub record Placed (xs : List ℕ) (k : ℕ) : Type 0 where

@@ -118,7 +118,7 @@ fn is_retained_and_wanted(wanted: Wanted, s: &[u8], k: usize) -> bool
 // Whether some retained record of the first n is wanted.
 fn some_retained(wanted: Wanted, s: &[u8], n: usize) -> bool
     requires { ⌜ Counted (now s) n ⌝ }
-    ensures { λ r. ⌜ r ≡ someRetained wanted (now (s .entry)) ⌝ }
+    ensures { λ r. ⌜ r ≡ someRetained (isWanted wanted) (now (s .entry)) ⌝ }
 {
     let mut k = 0;
     while k < n {

@@ -6,14 +6,12 @@ use mathlib.Core.Bool.{Bool, true, false}
 use native.Mathlib.Omega.{arith}
 use lib.ListN.{length}
 use Rattle.laws.specs.Choice.{pick, ifEq}
-use Rattle.laws.specs.Lists.{Rising}
 use Rattle.number.specs.BigEndian.{Bytes}
 use Rattle.source.specs.declared.Header.{Header}
 use Rattle.source.specs.declared.Header.the-variants.{Records, Refused}
 use Rattle.source.specs.Header.{recordCount, headerOf}
 use Rattle.source.proofs.HeaderLaws.{accepted-of, not-refused, tells-records, tells-refused}
 use Rattle.records.specs.Records.{Counted}
-use Rattle.checks.specs.Checks.{badSizes, badPairs}
 use Rattle.checks.proofs.SizesLaws.{sizes, codes-rise, kept-rise, kept-low, requested-rise}
 use Rattle.listing.specs.Job.{Job, glyphCount}
 use Rattle.plan.specs.Plan.{Prepared}
@@ -36,17 +34,6 @@ pub no-case : _≡_ {A = ℕ} 0 0
 no-case = refl
 
 pub ruleset cases = (case-first, case-then, no-case)
-
--- what an earlier test gives a later one
-pub pairs-rise : (codes glyphs : List ℕ) (t : Bool) → t ≡ badPairs codes glyphs → t ≡ false → Rising codes
-pairs-rise codes glyphs t q e = codes-rise codes glyphs (sym q ∙ e)
-
-module _ (source codes glyphs kept n requested : ℕ) (t : Bool) (q : t ≡ badSizes source codes glyphs kept n requested) (e : t ≡ false) where
-  pub some-glyph-told : 1 ≤ n
-  some-glyph-told = sizes source codes glyphs kept n requested (sym q ∙ e) .some-glyph
-
-  pub few-glyphs-told : n ≤ 65535
-  few-glyphs-told = sizes source codes glyphs kept n requested (sym q ∙ e) .few-glyphs
 
 -- ---- the header
 

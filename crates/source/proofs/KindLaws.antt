@@ -13,7 +13,7 @@ use Rattle.number.proofs.BigEndianLaws.{be-lt}
 use Rattle.source.specs.declared.Kind.{Kind}
 use Rattle.source.specs.declared.Kind.the-variants.{Format4, Format12, Format14, Unreadable}
 use Rattle.source.specs.Kind.{format, length4, language4, segCountX2, segments4, readable4, length12, language12, groups12, readable12, length14, records14, readable14, kindAt}
-use Rattle.source.specs.Room.{Room4, Room12, Room14}
+use Rattle.source.specs.Room.{Room4, Room12}
 
 -- ---- the tests as facts
 
@@ -21,7 +21,6 @@ pub record Readable4 (xs : List ℕ) (at l s len : ℕ) : Type 0 where
   pub language : l ≡ language4 xs at
   pub segments : s ≡ segments4 xs at
   pub long : len ≡ length4 xs at
-  pub header : at + 16 ≤ length xs
   pub four : format xs at ≡ 4
   pub even : segCountX2 xs at % 2 ≡ 0
   pub some : 1 ≤ s
@@ -32,7 +31,6 @@ pub record Readable12 (xs : List ℕ) (at l g len : ℕ) : Type 0 where
   pub language : l ≡ language12 xs at
   pub groups : g ≡ groups12 xs at
   pub long : len ≡ length12 xs at
-  pub header : at + 16 ≤ length xs
   pub twelve : format xs at ≡ 12
   pub room : 16 + 12 * g ≤ len
   pub fits : at + len ≤ length xs
@@ -40,7 +38,6 @@ pub record Readable12 (xs : List ℕ) (at l g len : ℕ) : Type 0 where
 pub record Readable14 (xs : List ℕ) (at n len : ℕ) : Type 0 where
   pub records : n ≡ records14 xs at
   pub long : len ≡ length14 xs at
-  pub header : at + 10 ≤ length xs
   pub fourteen : format xs at ≡ 14
   pub few : n ≤ 512
   pub room : 10 + 11 * n ≤ len
@@ -58,49 +55,43 @@ module _ (xs : List ℕ) (at : ℕ) where
 
   facts4 : readable4 xs at ≡ true → here4
   facts4 e =
-      let e₁ = both-right (leb (at + 16) (length xs)) _ e in
-      let e₂ = both-right (eqb (format xs at) 4) _ e₁ in
-      let e₃ = both-right (eqb (segCountX2 xs at % 2) 0) _ e₂ in
-      let e₄ = both-right (leb 1 (segments4 xs at)) _ e₃ in
+      let e₁ = both-right (eqb (format xs at) 4) _ e in
+      let e₂ = both-right (eqb (segCountX2 xs at % 2) 0) _ e₁ in
+      let e₃ = both-right (leb 1 (segments4 xs at)) _ e₂ in
       record {
         language = refl;
         segments = refl;
         long = refl;
-        header = leb-true _ _ (both-left _ _ e);
-        four = eqb-true _ _ (both-left _ _ e₁);
-        even = eqb-true _ _ (both-left _ _ e₂);
-        some = leb-true _ _ (both-left _ _ e₃);
-        room = leb-true _ _ (both-left _ _ e₄);
-        fits = leb-true _ _ (both-right (leb (16 + 8 * segments4 xs at) (length4 xs at)) _ e₄);
+        four = eqb-true _ _ (both-left _ _ e);
+        even = eqb-true _ _ (both-left _ _ e₁);
+        some = leb-true _ _ (both-left _ _ e₂);
+        room = leb-true _ _ (both-left _ _ e₃);
+        fits = leb-true _ _ (both-right (leb (16 + 8 * segments4 xs at) (length4 xs at)) _ e₃);
       }
 
   facts12 : readable12 xs at ≡ true → here12
   facts12 e =
-      let e₁ = both-right (leb (at + 16) (length xs)) _ e in
-      let e₂ = both-right (eqb (format xs at) 12) _ e₁ in
+      let e₁ = both-right (eqb (format xs at) 12) _ e in
       record {
         language = refl;
         groups = refl;
         long = refl;
-        header = leb-true _ _ (both-left _ _ e);
-        twelve = eqb-true _ _ (both-left _ _ e₁);
-        room = leb-true _ _ (both-left _ _ e₂);
-        fits = leb-true _ _ (both-right (leb (16 + 12 * groups12 xs at) (length12 xs at)) _ e₂);
+        twelve = eqb-true _ _ (both-left _ _ e);
+        room = leb-true _ _ (both-left _ _ e₁);
+        fits = leb-true _ _ (both-right (leb (16 + 12 * groups12 xs at) (length12 xs at)) _ e₁);
       }
 
   facts14 : readable14 xs at ≡ true → here14
   facts14 e =
-      let e₁ = both-right (leb (at + 10) (length xs)) _ e in
-      let e₂ = both-right (eqb (format xs at) 14) _ e₁ in
-      let e₃ = both-right (leb (records14 xs at) 512) _ e₂ in
+      let e₁ = both-right (eqb (format xs at) 14) _ e in
+      let e₂ = both-right (leb (records14 xs at) 512) _ e₁ in
       record {
         records = refl;
         long = refl;
-        header = leb-true _ _ (both-left _ _ e);
-        fourteen = eqb-true _ _ (both-left _ _ e₁);
-        few = leb-true _ _ (both-left _ _ e₂);
-        room = leb-true _ _ (both-left _ _ e₃);
-        fits = leb-true _ _ (both-right (leb (10 + 11 * records14 xs at) (length14 xs at)) _ e₃);
+        fourteen = eqb-true _ _ (both-left _ _ e);
+        few = leb-true _ _ (both-left _ _ e₁);
+        room = leb-true _ _ (both-left _ _ e₂);
+        fits = leb-true _ _ (both-right (leb (10 + 11 * records14 xs at) (length14 xs at)) _ e₂);
       }
 
   -- ---- the facts give the kind
@@ -112,7 +103,6 @@ module _ (xs : List ℕ) (at : ℕ) where
         ← g .language,
         ← g .segments,
         ← g .long,
-        le-leb _ _ (g .header),
         eq-eqb _ _ (g .four),
         eq-eqb _ _ (g .even),
         le-leb _ _ (g .some),
@@ -128,7 +118,6 @@ module _ (xs : List ℕ) (at : ℕ) where
         ← g .language,
         ← g .groups,
         ← g .long,
-        le-leb _ _ (g .header),
         eq-eqb _ _ (g .twelve),
         le-leb _ _ (g .room),
         le-leb _ _ (g .fits),
@@ -142,7 +131,6 @@ module _ (xs : List ℕ) (at : ℕ) where
         not-true (readable12 xs at) (λ e. let f = facts12 e in omega arith),
         ← g .records,
         ← g .long,
-        le-leb _ _ (g .header),
         eq-eqb _ _ (g .fourteen),
         le-leb _ _ (g .few),
         le-leb _ _ (g .room),
@@ -188,12 +176,15 @@ module _ (xs : List ℕ) (at : ℕ) where
       let g = tells4 e in
       record { room = g .room; fits = g .fits; small = rw (g .long) (be-lt 2 xs (at + 2) b) }
 
-  pub room12 : {l n len : ℕ} → kindAt xs at ≡ Format12 l n len → Room12 xs at n len
+  pub room12 : {l n len : ℕ} → kindAt xs at ≡ Format12 l n len → Room12 xs at n
   room12 e =
       let g = tells12 e in
-      record { room = g .room; fits = g .fits }
+      record { fits = omega arith }
 
-  pub room14 : {n len : ℕ} → kindAt xs at ≡ Format14 n len → Room14 xs at n len
-  room14 e =
-      let g = tells14 e in
-      record { few = g .few; room = g .room; fits = g .fits }
+-- ---- a kind's length in bytes; 0 where nothing is readable
+
+abbrev pub lengthOf : Kind → ℕ
+lengthOf (Format4 language segments len) = len
+lengthOf (Format12 language groups len) = len
+lengthOf (Format14 records len) = len
+lengthOf Unreadable = 0

@@ -8,8 +8,8 @@ use Rattle.laws.proofs.StandsLaws.{Stands}
 use Rattle.number.proofs.StandsLaws.{be-stands}
 use Rattle.source.specs.declared.Kind.{Kind}
 use Rattle.source.specs.declared.Kind.the-variants.{Format4, Format12, Format14, Unreadable}
-use Rattle.source.specs.Kind.{kindAt, lengthOf}
-use Rattle.source.proofs.KindLaws.{gives4, gives12, gives14, tells4, tells12, tells14}
+use Rattle.source.specs.Kind.{kindAt}
+use Rattle.source.proofs.KindLaws.{gives4, gives12, gives14, tells4, tells12, tells14, lengthOf}
 
 module _ {xs t : List ℕ} {at : ℕ} (st : Stands xs at t) where
   pub kind-stands : 0 < length t → lengthOf (kindAt t 0) ≡ length t → kindAt xs at ≡ kindAt t 0

@@ -43,6 +43,6 @@ offsetOf xs k = be 4 xs (8 + 8 * k)
 abbrev pub recordOf : List ℕ → ℕ → EncodingRecord
 recordOf xs k = record { platform = platformOf xs k; encoding = encodingOf xs k; offset = offsetOf xs k }
 
--- missing where its 8 bytes are not all there
+-- missing where its 8 bytes are not all there, whatever the count says
 unfoldable pub entryAt : List ℕ → ℕ → Entry
 entryAt xs k = ifLt (length xs) (12 + 8 * k) Missing (Record (recordOf xs k))

@@ -1,5 +1,6 @@
 -- What stands at an offset: a readable subtable of format 4, 12 or 14 with its language, count and length, or nothing readable
--- (docs/01-rules.md, "Records"). Sums are exact; a field past the end makes a subtable unreadable.
+-- (docs/01-rules.md, "Records"). Sums are exact. A field past the end makes a subtable unreadable: the length, which holds the header,
+-- would then reach past the end too.
 use Prim.Native.Nat.{ℕ, _+_, _*_, _/_, _%_}
 use mathlib.Core.List.{List}
 use mathlib.Core.Bool.{Bool}
@@ -32,11 +33,10 @@ segments4 xs at = segCountX2 xs at / 2
 -- readable: segCountX2 is even, there is a segment, the length holds the segments and reaches no further than the source
 abbrev pub readable4 : List ℕ → ℕ → Bool
 readable4 xs at =
-    both (leb (at + 16) (length xs))
-    (both (eqb (format xs at) 4)
+    both (eqb (format xs at) 4)
     (both (eqb (segCountX2 xs at % 2) 0)
     (both (leb 1 (segments4 xs at))
-    (both (leb (16 + 8 * segments4 xs at) (length4 xs at)) (leb (at + length4 xs at) (length xs))))))
+    (both (leb (16 + 8 * segments4 xs at) (length4 xs at)) (leb (at + length4 xs at) (length xs)))))
 
 -- ---- format 12: format, two reserved bytes, length, language, count of groups
 
@@ -52,9 +52,8 @@ groups12 xs at = be 4 xs (at + 12)
 -- readable: the length holds the groups and reaches no further than the source
 abbrev pub readable12 : List ℕ → ℕ → Bool
 readable12 xs at =
-    both (leb (at + 16) (length xs))
-    (both (eqb (format xs at) 12)
-    (both (leb (16 + 12 * groups12 xs at) (length12 xs at)) (leb (at + length12 xs at) (length xs))))
+    both (eqb (format xs at) 12)
+    (both (leb (16 + 12 * groups12 xs at) (length12 xs at)) (leb (at + length12 xs at) (length xs)))
 
 -- ---- format 14: format, length, count of selector records
 
@@ -67,10 +66,9 @@ records14 xs at = be 4 xs (at + 6)
 -- readable: at most 512 selector records, the length holds them and reaches no further than the source
 abbrev pub readable14 : List ℕ → ℕ → Bool
 readable14 xs at =
-    both (leb (at + 10) (length xs))
-    (both (eqb (format xs at) 14)
+    both (eqb (format xs at) 14)
     (both (leb (records14 xs at) selectorsMax)
-    (both (leb (10 + 11 * records14 xs at) (length14 xs at)) (leb (at + length14 xs at) (length xs)))))
+    (both (leb (10 + 11 * records14 xs at) (length14 xs at)) (leb (at + length14 xs at) (length xs))))
 
 -- ---- the kind
 
@@ -86,10 +84,3 @@ formatOf (Format4 language segments len) = 4
 formatOf (Format12 language groups len) = 12
 formatOf (Format14 records len) = 14
 formatOf Unreadable = 0
-
--- its length in bytes; 0 where nothing is readable
-abbrev pub lengthOf : Kind → ℕ
-lengthOf (Format4 language segments len) = len
-lengthOf (Format12 language groups len) = len
-lengthOf (Format14 records len) = len
-lengthOf Unreadable = 0

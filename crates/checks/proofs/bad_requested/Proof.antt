@@ -9,14 +9,8 @@ falls16-requires c κs = search needs
 returns : tie.Need-returns
 returns c = search one-of
 
-sub-exceeds16 : tie.Need-sub-exceeds16
-sub-exceeds16 c = search needs
-
-cast-exceeds16 : tie.Need-cast-exceeds16
-cast-exceeds16 c = search needs
-
-exceeds16-requires : tie.Need-exceeds16-requires
-exceeds16-requires c κs = search needs
+reaches-count-requires : tie.Need-reaches-count-requires
+reaches-count-requires c κs = search needs
 
 returns-2 : tie.Need-returns-2
 returns-2 c = search one-of
@@ -24,4 +18,4 @@ returns-2 c = search one-of
 pub bad-requested-spec : {M : Type 1} → statement M
 bad-requested-spec =
     tie.close
-    (tie.spec falls16-requires returns sub-exceeds16 cast-exceeds16 exceeds16-requires returns-2)
+    (tie.spec falls16-requires returns reaches-count-requires returns-2)

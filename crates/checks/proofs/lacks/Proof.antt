@@ -1,40 +1,41 @@
-use Rattle.checks.proofs.ChecksLaws.{Lacking, lacking}
-use Prim.Native.Nat.{_-_, _+_}
-use lib.ListN.{length}
-use native.Mathlib.Omega.{arith}
 use borrow.Author.Needs.{needs}
+use native.Mathlib.Omega.{arith}
+use Prim.Native.Nat.{_-_}
+use lib.ListN.{length}
+use Rattle.laws.proofs.SearchLaws.{Asking, asking, asking-on}
+use Rattle.checks.proofs.ChecksLaws.{isMissing, lacks-told}
 use Rattle.checks.proofs.lacks.Statement.{statement}
 use Rattle.checks.proofs.lacks.Tie as tie
 
 abbrev Inv-loop : tie.InvT-loop
-Inv-loop kept codes k₀ i₀ k i = Lacking kept codes k i
+Inv-loop kept codes near₀ i₀ near i = Asking (isMissing kept codes) (length codes) i
 
 abbrev μ-loop : tie.MeasureT-loop
-μ-loop kept codes k₀ i₀ k i = length kept - k + (length codes - i)
+μ-loop kept codes near₀ i₀ near i = length codes - i
 
 loop-holds : tie.Need-loop-holds Inv-loop μ-loop
-loop-holds c = search (needs, lacking)
+loop-holds c = search asking
+
+mul-kept-below : tie.Need-mul-kept-below Inv-loop μ-loop
+mul-kept-below c = omega arith
+
+shared-slice-read-kept-below : tie.Need-shared-slice-read-kept-below Inv-loop μ-loop
+shared-slice-read-kept-below c = omega arith
+
+kept-below-requires : tie.Need-kept-below-requires Inv-loop μ-loop
+kept-below-requires c κs = search needs
+
+mul-is-missing : tie.Need-mul-is-missing Inv-loop μ-loop
+mul-is-missing c = omega arith
+
+shared-slice-read-is-missing : tie.Need-shared-slice-read-is-missing Inv-loop μ-loop
+shared-slice-read-is-missing c = omega arith
+
+is-missing-requires : tie.Need-is-missing-requires Inv-loop μ-loop
+is-missing-requires c κs = search needs
 
 returns : tie.Need-returns Inv-loop μ-loop
-returns c = search (needs, lacking)
-
-mul-here : tie.Need-mul-here Inv-loop μ-loop
-mul-here c = omega arith
-
-shared-slice-read-here : tie.Need-shared-slice-read-here Inv-loop μ-loop
-shared-slice-read-here c = omega arith
-
-mul-c : tie.Need-mul-c Inv-loop μ-loop
-mul-c c = omega arith
-
-shared-slice-read-c : tie.Need-shared-slice-read-c Inv-loop μ-loop
-shared-slice-read-c c = omega arith
-
-add-k : tie.Need-add-k Inv-loop μ-loop
-add-k c = omega arith
-
-returns-2 : tie.Need-returns-2 Inv-loop μ-loop
-returns-2 c = search (needs, lacking)
+returns c = lacks-told _ _ _ (search asking)
 
 add-i : tie.Need-add-i Inv-loop μ-loop
 add-i c = omega arith
@@ -43,16 +44,10 @@ loop-less : tie.Need-loop-less Inv-loop μ-loop
 loop-less c = omega arith
 
 loop-again : tie.Need-loop-again Inv-loop μ-loop
-loop-again c = search (needs, lacking)
+loop-again c = asking-on _ _ _ _ (search needs) (search needs) (c .before .is-missing .ensures) (search needs)
 
-loop-less-2 : tie.Need-loop-less-2 Inv-loop μ-loop
-loop-less-2 c = omega arith
-
-loop-again-2 : tie.Need-loop-again-2 Inv-loop μ-loop
-loop-again-2 c = search (needs, lacking)
-
-returns-3 : tie.Need-returns-3 Inv-loop μ-loop
-returns-3 c = search (needs, lacking)
+returns-2 : tie.Need-returns-2 Inv-loop μ-loop
+returns-2 c = lacks-told _ _ _ (search asking)
 
 pub lacks-spec : {M : Type 1} → statement M
 lacks-spec =
@@ -61,16 +56,14 @@ lacks-spec =
     Inv-loop
     μ-loop
     loop-holds
+    mul-kept-below
+    shared-slice-read-kept-below
+    kept-below-requires
+    mul-is-missing
+    shared-slice-read-is-missing
+    is-missing-requires
     returns
-    mul-here
-    shared-slice-read-here
-    mul-c
-    shared-slice-read-c
-    add-k
-    returns-2
     add-i
     loop-less
     loop-again
-    loop-less-2
-    loop-again-2
-    returns-3)
+    returns-2)

@@ -2,12 +2,12 @@
 use Prim.Native.Nat.{_-_}
 use native.Mathlib.Omega.{arith}
 use Rattle.laws.proofs.SearchLaws.{Looking, looking}
-use Rattle.heads.specs.Heads.{leadsTo}
+use Rattle.records.specs.Records.{leadsToFormat}
 use Rattle.heads.proofs.first_record.Statement.{statement}
 use Rattle.heads.proofs.first_record.Tie as tie
 
 abbrev Inv-loop : tie.InvT-loop
-Inv-loop s format n i₀ i = Looking (leadsTo s format) n i
+Inv-loop s format n i₀ i = Looking (leadsToFormat format s) n i
 
 abbrev μ-loop : tie.MeasureT-loop
 μ-loop s format n i₀ i = n - i
@@ -15,8 +15,8 @@ abbrev μ-loop : tie.MeasureT-loop
 loop-holds : tie.Need-loop-holds Inv-loop μ-loop
 loop-holds c = search looking
 
-leads-to-requires : tie.Need-leads-to-requires Inv-loop μ-loop
-leads-to-requires c κs = omega arith
+leads-to-format-requires : tie.Need-leads-to-format-requires Inv-loop μ-loop
+leads-to-format-requires c κs = omega arith
 
 returns : tie.Need-returns Inv-loop μ-loop
 returns c = search looking
@@ -40,7 +40,7 @@ first-record-spec =
     Inv-loop
     μ-loop
     loop-holds
-    leads-to-requires
+    leads-to-format-requires
     returns
     add-i
     loop-less

@@ -9,10 +9,10 @@ use Rattle.lookup.proofs.first_group.Statement.{statement}
 use Rattle.lookup.proofs.first_group.Tie as tie
 
 abbrev Inv-loop : tie.InvT-loop
-Inv-loop s at groups length c i₀ i = Looking (reaches (endCharCode s at) c) groups i
+Inv-loop s at groups c i₀ i = Looking (reaches (endCharCode s at) c) groups i
 
 abbrev μ-loop : tie.MeasureT-loop
-μ-loop s at groups length c i₀ i = groups - i
+μ-loop s at groups c i₀ i = groups - i
 
 loop-holds : tie.Need-loop-holds Inv-loop μ-loop
 loop-holds c = search reaching

@@ -49,8 +49,8 @@ returns-2 : tie.Need-returns-2
 unfolding inGroup
 returns-2 c = else-lt _ _ _ _ (omega arith) (if-lt _ _ _ _ (omega arith) refl)
 
-cast-t15 : tie.Need-cast-t15
-cast-t15 c = search needs
+cast-t14 : tie.Need-cast-t14
+cast-t14 c = search needs
 
 returns-3 : tie.Need-returns-3
 unfolding inGroup
@@ -73,5 +73,5 @@ in-group-spec =
     cast-glyph-2
     add-glyph
     returns-2
-    cast-t15
+    cast-t14
     returns-3)

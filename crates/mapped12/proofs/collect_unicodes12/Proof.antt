@@ -8,7 +8,7 @@ clear-requires : tie.Need-clear-requires
 clear-requires c κs = search needs
 
 mark-groups-requires : tie.Need-mark-groups-requires
-mark-groups-requires c κs = (search needs, (search needs, search cleared))
+mark-groups-requires c κs = (search needs, (search needs, (search needs, search cleared)))
 
 same-length : tie.Need-same-length
 same-length c = search needs

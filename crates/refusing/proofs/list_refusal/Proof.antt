@@ -1,5 +1,5 @@
 use Rattle.refusing.specs.Refusing.{listRefusal}
-use Rattle.refusing.proofs.RefusingLaws.{cases, pairs-rise, some-glyph-told, few-glyphs-told}
+use Rattle.refusing.proofs.RefusingLaws.{cases}
 use borrow.Author.Needs.{needs}
 use Rattle.refusing.proofs.list_refusal.Statement.{statement}
 use Rattle.refusing.proofs.list_refusal.Tie as tie
@@ -19,14 +19,14 @@ unfolding listRefusal
 returns-2 c = search cases
 
 bad-kept-requires : tie.Need-bad-kept-requires
-bad-kept-requires c κs = search pairs-rise
+bad-kept-requires c κs = search needs
 
 returns-3 : tie.Need-returns-3
 unfolding listRefusal
 returns-3 c = search cases
 
 bad-requested-requires : tie.Need-bad-requested-requires
-bad-requested-requires c κs = (search some-glyph-told, search few-glyphs-told)
+bad-requested-requires c κs = search needs
 
 returns-4 : tie.Need-returns-4
 unfolding listRefusal
