@@ -17,7 +17,7 @@ use Rattle.number.proofs.BigEndianLaws.{length-enc, be-front, be-back, be-enc-f
 use Rattle.number.proofs.StandsLaws.{be-stands}
 use Rattle.source.specs.declared.Kind.the-variants.{Format14}
 use Rattle.source.specs.Kind as source
-use Rattle.source.proofs.KindLaws.{gives14, Readable14}
+use Rattle.source.proofs.KindLaws.{gives14, Readable14, lengthOf as kindLength}
 use Rattle.source.proofs.StandsLaws.{kind-stands}
 use Rattle.uvs.specs.Tables.{countsDefault, countsNonDefault}
 use Rattle.uvs.specs.Default.{newDefault}
@@ -152,4 +152,4 @@ module _ (rs : List Row) where
 
     -- wherever it stands
     pub format14-kind-stands : {xs : List ℕ} {at : ℕ} → Stands xs at T → source.kindAt xs at ≡ Format14 (length rs) (length T)
-    format14-kind-stands st = kind-stands st (omega (arith, length-format14 rs)) (ap source.lengthOf format14-kind) ∙ format14-kind
+    format14-kind-stands st = kind-stands st (omega (arith, length-format14 rs)) (ap kindLength format14-kind) ∙ format14-kind
