@@ -56,9 +56,9 @@ pub result-case : resultOf job (plan job) ≡ bytes
 result-case = ap (resultOf job) plan-case ∙ written-case
 
 pub old-case : oldHead (resultOf job (plan job)) 0x41 ≡ Glyph 1
-unfolding ifLt ifLe ifEq first be refused5 kindAt inArray inSegment find4 lookup4 oldOf byRecords
+unfolding ifLt ifLe ifEq first be refused5 kindAt leadsTo inArray inSegment find4 lookup4 oldOf byRecords
 old-case = rw result-case
 
 pub new-case : newHead (resultOf job (plan job)) 0x41 ≡ Glyph 1
-unfolding ifLt ifLe ifEq first be refused5 kindAt inArray inSegment find4 lookup4 oldOf newOf byRecords
+unfolding ifLt ifLe ifEq first be refused5 kindAt leadsTo inArray inSegment find4 lookup4 oldOf newOf byRecords
 new-case = rw result-case
