@@ -18,7 +18,7 @@ ROOTS = [
     ("job", "Answered", "answered"), ("job_input", "Job", "parse"),
     ("crustedlane", "Calls", "subsetOf"), ("crustedlane", "Calls", "recordFateOf"), ("crustedlane", "Calls", "codesAfter"),
     ("crustedlane", "Calls", "glyphsAfter"), ("crustedlane", "Calls", "outAfter"),
-    ("crustedlane", "Told", "told"), ("crustedlane", "Told", "toldFate"), ("crustedlane", "Told", "toldHead"),
+    ("boundary", "Told", "told"), ("boundary", "Told", "toldFate"), ("boundary", "Told", "toldHead"),
 ]
 
 WORD = re.compile(r"[^\s(){}\[\].,;λ∷→×≡]+")

@@ -1,3 +1,1 @@
 pub mod OneLaws
-pub mod SizesLaws
-pub mod TellLaws

@@ -2,10 +2,9 @@
 use Prim.Native.Nat.{ℕ}
 use mathlib.Core.List.{List}
 use mathlib.Core.Bool.{Bool}
-use lib.Dec.{ltb}
 use lib.ListN.{length}
-use Rattle.laws.specs.Choice.{pick, either}
-use Rattle.checks.specs.Checks.{badSizes}
+use Rattle.laws.specs.Choice.{pick}
+use Rattle.boundary.specs.Sizes.{sizesBroken}
 use Rattle.listing.specs.Job.{Job, job}
 use Rattle.pairs.specs.declared.Pair.{Pair}
 use Rattle.pairs.specs.Pairs.{codesOf, glyphsOf}
@@ -17,12 +16,8 @@ use Rattle.laws.specs.Lists.{laid}
 use Rattle.cmap.specs.Cmap.{answerOf, outputOf}
 use Rattle.cmap.specs.Fates.{fateOf, noFate}
 
--- 1: a size is broken, or a slice of the work room has fewer places than there are pairs
-abbrev pub sizesBroken : ℕ → ℕ → ℕ → ℕ → ℕ → ℕ → ℕ → Bool
-sizesBroken source pairs codes glyphs kept n requested =
-    either (ltb codes pairs) (either (ltb glyphs pairs) (badSizes source pairs pairs kept n requested))
-
 module _ (source : List ℕ) (pairs : List Pair) (codes glyphs kept newGlyphs requested : List ℕ) where
+  -- 1
   abbrev pub broken : Bool
   broken = sizesBroken (length source) (length pairs) (length codes) (length glyphs) (length kept) (length newGlyphs) (length requested)
 

@@ -8,9 +8,9 @@ use Rattle.cmap.specs.Cmap.{numberOf, lengthOf, recordsOf}
 use Rattle.cmap.specs.Fates.{numberOf as fateNumberOf}
 use Rattle.heads.specs.declared.Answer.{Answer as Printed}
 use Rattle.heads.specs.Heads.{numberOf as headNumberOf, printedOf}
-use Rattle.crustedlane.specs.declared.SubsetAnswer.{SubsetAnswer}
-use Rattle.crustedlane.specs.declared.FateAnswer.{FateAnswer}
-use Rattle.crustedlane.specs.declared.HeadAnswer.{HeadAnswer}
+use Rattle.boundary.specs.declared.SubsetAnswer.{SubsetAnswer}
+use Rattle.boundary.specs.declared.FateAnswer.{FateAnswer}
+use Rattle.boundary.specs.declared.HeadAnswer.{HeadAnswer}
 
 abbrev pub told : Answer → SubsetAnswer
 told a = record { number = numberOf a; length = lengthOf a; records = recordsOf a }

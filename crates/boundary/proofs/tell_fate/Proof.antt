@@ -1,7 +1,7 @@
-use Rattle.crustedlane.proofs.TellLaws.{telling}
+use Rattle.boundary.proofs.TellLaws.{telling}
 use borrow.Author.Needs.{needs}
-use Rattle.crustedlane.proofs.tell_fate.Statement.{statement}
-use Rattle.crustedlane.proofs.tell_fate.Tie as tie
+use Rattle.boundary.proofs.tell_fate.Statement.{statement}
+use Rattle.boundary.proofs.tell_fate.Tie as tie
 
 fate-number-of-requires : tie.Need-fate-number-of-requires
 fate-number-of-requires c κs = search needs

@@ -1,7 +1,7 @@
-use Rattle.crustedlane.proofs.TellLaws.{telling}
+use Rattle.boundary.proofs.TellLaws.{telling}
 use borrow.Author.Needs.{needs}
-use Rattle.crustedlane.proofs.tell.Statement.{statement}
-use Rattle.crustedlane.proofs.tell.Tie as tie
+use Rattle.boundary.proofs.tell.Statement.{statement}
+use Rattle.boundary.proofs.tell.Tie as tie
 
 number-of-requires : tie.Need-number-of-requires
 number-of-requires c κs = search needs

@@ -8,10 +8,10 @@ use Rattle.cmap.specs.Cmap.{numberOf, lengthOf, recordsOf}
 use Rattle.cmap.specs.Fates.{numberOf as fateNumberOf}
 use Rattle.heads.specs.declared.Answer.{Answer as Printed}
 use Rattle.heads.specs.Heads.{numberOf as headNumberOf, printedOf}
-use Rattle.crustedlane.specs.declared.SubsetAnswer.{SubsetAnswer}
-use Rattle.crustedlane.specs.declared.FateAnswer.{FateAnswer}
-use Rattle.crustedlane.specs.declared.HeadAnswer.{HeadAnswer}
-use Rattle.crustedlane.specs.Told.{told, kindNumber, writtenAt, toldFate, toldHead}
+use Rattle.boundary.specs.declared.SubsetAnswer.{SubsetAnswer}
+use Rattle.boundary.specs.declared.FateAnswer.{FateAnswer}
+use Rattle.boundary.specs.declared.HeadAnswer.{HeadAnswer}
+use Rattle.boundary.specs.Told.{told, kindNumber, writtenAt, toldFate, toldHead}
 
 pub tells : (a : Answer) (number bytes records : ℕ) → number ≡ numberOf a → bytes ≡ lengthOf a → records ≡ recordsOf a
     → record { number = number; length = bytes; records = records } ≡ told a

@@ -1,7 +1,7 @@
 use Rattle.laws.proofs.ChoiceLaws.{tests}
 use borrow.Author.Needs.{needs}
-use Rattle.crustedlane.proofs.sizes_broken.Statement.{statement}
-use Rattle.crustedlane.proofs.sizes_broken.Tie as tie
+use Rattle.boundary.proofs.sizes_broken.Statement.{statement}
+use Rattle.boundary.proofs.sizes_broken.Tie as tie
 
 returns : tie.Need-returns
 returns c = search tests

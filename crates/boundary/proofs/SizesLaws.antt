@@ -5,7 +5,7 @@ use mathlib.Core.Bool.{false}
 use lib.Dec.{ltb}
 use borrow.Author.Tests.{ltb-false}
 use Rattle.laws.proofs.EitherLaws.{neither-left, neither-right}
-use Rattle.crustedlane.specs.Calls.{sizesBroken}
+use Rattle.boundary.specs.Sizes.{sizesBroken}
 
 pub long : (source pairs codes glyphs kept n requested : ℕ) → sizesBroken source pairs codes glyphs kept n requested ≡ false → (pairs ≤ codes) × (pairs ≤ glyphs)
 long source pairs codes glyphs kept n requested e =

@@ -1,7 +1,7 @@
-use Rattle.crustedlane.proofs.TellLaws.{telling}
+use Rattle.boundary.proofs.TellLaws.{telling}
 use borrow.Author.Needs.{needs}
-use Rattle.crustedlane.proofs.tell_head.Statement.{statement}
-use Rattle.crustedlane.proofs.tell_head.Tie as tie
+use Rattle.boundary.proofs.tell_head.Statement.{statement}
+use Rattle.boundary.proofs.tell_head.Tie as tie
 
 head-number-of-requires : tie.Need-head-number-of-requires
 head-number-of-requires c κs = search needs

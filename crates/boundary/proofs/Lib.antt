@@ -1,0 +1,2 @@
+pub mod SizesLaws
+pub mod TellLaws
