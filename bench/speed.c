@@ -390,8 +390,66 @@ static void see_count(const char *name, const uint8_t *source, size_t source_cou
     twin_free(&t);
 }
 
+/* ---- a job as the program's input, for the crate as a program of its own */
+
+static const char *wanted_directory;
+
+static void put_part(FILE *f, const char *mark, size_t count)
+{
+    uint8_t head[4];
+    put32(head, 0, (uint32_t)count);
+    fwrite(mark, 1, 2, f);
+    fwrite(head, 1, 4, f);
+}
+
+static void put_numbers(FILE *f, const char *mark, const uint16_t *numbers, size_t count)
+{
+    put_part(f, mark, 2 * count);
+    for (size_t i = 0; i < count; i++) {
+        uint8_t two[2];
+        put16(two, 0, numbers[i]);
+        fwrite(two, 1, 2, f);
+    }
+}
+
+static void see_job(const char *name, const uint8_t *source, size_t source_count, size_t glyph_count, const hb_set_t *unicodes)
+{
+    twin t = twin_new(name, source, source_count, glyph_count, unicodes, 0);
+    char path[4096];
+    snprintf(path, sizeof path, "%s/%d.job", wanted_directory, job_number);
+    FILE *f = fopen(path, "wb");
+    if (!f) {
+        fprintf(stderr, "%s can't be written\n", path);
+        exit(1);
+    }
+    put_part(f, "TB", t.ours.source_count);
+    fwrite(t.ours.source, 1, t.ours.source_count, f);
+    put_part(f, "PR", 6 * t.ours.pair_count);
+    for (size_t i = 0; i < t.ours.pair_count; i++) {
+        uint8_t pair[6];
+        put32(pair, 0, t.ours.pairs[i].code);
+        put16(pair, 4, t.ours.pairs[i].glyph);
+        fwrite(pair, 1, 6, f);
+    }
+    put_part(f, "KP", 4 * t.ours.kept_count);
+    for (size_t i = 0; i < t.ours.kept_count; i++) {
+        uint8_t point[4];
+        put32(point, 0, t.ours.kept[i]);
+        fwrite(point, 1, 4, f);
+    }
+    put_numbers(f, "MP", t.ours.map, t.ours.map_count);
+    put_numbers(f, "RQ", t.ours.requested, t.ours.requested_count);
+    fclose(f);
+    twin_free(&t);
+}
+
 int main(int argc, char **argv)
 {
+    if (argc == 3 && strcmp(argv[1], "jobs") == 0) {
+        wanted_directory = argv[2];
+        visit_all(-1, see_job);
+        return 0;
+    }
     if (argc == 5 && strcmp(argv[1], "count") == 0) {
         wanted_library = argv[2][0];
         int wanted = atoi(argv[3]);
