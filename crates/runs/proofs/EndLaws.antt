@@ -9,11 +9,10 @@ use native.Mathlib.Nat.{eq-or-lt-of-le}
 use borrow.Author.Tests.{eqb-true}
 use lib.Dec.{eqb}
 use lib.ListN.{length, getD}
-use Rattle.laws.specs.Choice.{both}
 use Rattle.laws.specs.Search.{first}
 use Rattle.laws.proofs.ChoiceLaws.{false-true, both-left, both-right, by-pick}
 use Rattle.laws.proofs.SearchLaws.{Finding, seeking-start, looking-on, looking-found, looking-none}
-use Rattle.runs.specs.Runs.{breaks, breaksAt, runEnd}
+use Rattle.runs.specs.Runs.{breaks, breaksAt, runEnd, Ends}
 
 -- the pairs behind i go on up to k, and the search from k on finds the run's end
 pub record Ending (cs gs : List ℕ) (i k : ℕ) : Type 0 where
@@ -30,11 +29,11 @@ module _ (cs gs : List ℕ) (i : ℕ) where
     pub ending-on : (b : Bool) → k < length cs → b ≡ breaks (getD cs (k - 1) 0) (getD gs (k - 1) 0) (getD cs k 0) (getD gs k 0) → b ≡ false → Ending cs gs i (k + 1)
     ending-on b h q e = record { further = omega (arith, l .further); search = looking-on (l .search) h (sym q ∙ e) }
 
-    pub ending-found : (b : Bool) → k < length cs → b ≡ breaks (getD cs (k - 1) 0) (getD gs (k - 1) 0) (getD cs k 0) (getD gs k 0) → b ≡ true → k ≡ runEnd cs gs i
-    ending-found b h q e = looking-found (l .search) h (sym q ∙ e)
+    pub ending-found : (b : Bool) → k < length cs → b ≡ breaks (getD cs (k - 1) 0) (getD gs (k - 1) 0) (getD cs k 0) (getD gs k 0) → b ≡ true → Ends cs gs i k
+    ending-found b h q e = record { is = looking-found (l .search) h (sym q ∙ e); behind = l .further; within = l .search .within }
 
-    pub ending-last : length cs ≤ k → k ≡ runEnd cs gs i
-    ending-last h = looking-none (l .search) h
+    pub ending-last : length cs ≤ k → Ends cs gs i k
+    ending-last h = record { is = looking-none (l .search) h; behind = l .further; within = l .search .within }
 
 pub ruleset ending = (ending-start, ending-on, ending-found, ending-last)
 
@@ -44,12 +43,6 @@ pub ruleset ending = (ending-start, ending-on, ending-found, ending-last)
 pub record Next (cs gs : List ℕ) (k : ℕ) : Type 0 where
   pub code : getD cs (k + 1) 0 ≡ getD cs k 0 + 1
   pub glyph : getD gs (k + 1) 0 ≡ getD gs k 0 + 1
-
--- the run that holds i ends before e
-pub record Run (cs gs : List ℕ) (i e : ℕ) : Type 0 where
-  pub further : i < e
-  pub within : e ≤ length cs
-  pub on : (k : ℕ) → i ≤ k → k + 1 < e → Next cs gs k
 
 not-false : (b : Bool) → not b ≡ false → b ≡ true
 not-false true e = refl
@@ -66,33 +59,26 @@ goes-on cs gs k e =
     }
 
 module _ (cs gs : List ℕ) where
-  -- the search among n places behind i
-  run-first : (n i : ℕ) → i + 1 + n ≡ length cs → Run cs gs i (first (breaksAt cs gs) n (i + 1))
+  -- up to what the search among n places behind i finds, each pair goes on
+  on-first : (n i k : ℕ) → i ≤ k → k + 1 < first (breaksAt cs gs) n (i + 1) → Next cs gs k
   unfolding first
-  run-first zero i e = record { further = omega arith; within = omega arith; on = λ k a b. absurd (omega arith) }
-  run-first (suc n) i e =
-      by-pick (λ (r : ℕ). Run cs gs i r) (breaksAt cs gs (i + 1)) (i + 1) (first (breaksAt cs gs) n (i + 1 + 1))
-      (λ t. record { further = omega arith; within = omega arith; on = λ k a b. absurd (omega arith) })
-      (λ t.
-      let r = run-first n (i + 1) (omega arith) in
-      record {
-        further = omega (arith, r .further);
-        within = r .within;
-        on = λ k a b.
-            ⊎-elim
-            (λ (s : i ≡ k). subst (Next cs gs) s (goes-on cs gs i t))
-            (λ (s : i < k). r .on k (omega arith) b)
-            (eq-or-lt-of-le a);
-      })
-
-  pub run-is : (i e : ℕ) → i < length cs → e ≡ runEnd cs gs i → Run cs gs i e
-  unfolding runEnd
-  run-is i e h q = rw q (run-first (length cs - (i + 1)) i (omega arith))
+  on-first zero i k a = λ b. absurd (omega arith)
+  on-first (suc n) i k a =
+      by-pick (λ (r : ℕ). k + 1 < r → Next cs gs k) (breaksAt cs gs (i + 1)) (i + 1) (first (breaksAt cs gs) n (i + 1 + 1))
+      (λ t b. absurd (omega arith))
+      (λ t b.
+      ⊎-elim
+      (λ (s : i ≡ k). subst (Next cs gs) s (goes-on cs gs i t))
+      (λ (s : i < k). on-first n (i + 1) k (omega arith) b)
+      (eq-or-lt-of-le a))
 
   -- what holds at the run's first pair, and behind each pair if at it, holds at its last
-  pub run-along : (i e : ℕ) (P : ℕ → Type 0) → Run cs gs i e → P i → ((k : ℕ) → k + 1 < e → Next cs gs k → P k → P (k + 1)) → P (e - 1)
-  run-along i e P r p on = subst P (omega (arith, r .further)) (go (e - 1 - i) (omega (arith, r .further)))
+  pub run-along : (i e : ℕ) (P : ℕ → Type 0) → Ends cs gs i e → P i → ((k : ℕ) → k + 1 < e → Next cs gs k → P k → P (k + 1)) → P (e - 1)
+  unfolding runEnd
+  run-along i e P r p on = subst P (omega (arith, r .behind)) (go (e - 1 - i) (omega (arith, r .behind)))
     where
       go : (m : ℕ) → i + m < e → P (i + m)
       go zero h = subst P (omega arith) p
-      go (suc m) h = subst P (omega arith) (on (i + m) (omega arith) (r .on (i + m) (omega arith) (omega arith)) (go m (omega arith)))
+      go (suc m) h =
+          let next : Next cs gs (i + m) = on-first (length cs - (i + 1)) i (i + m) (omega arith) (omega (arith, r .is)) in
+          subst P (omega arith) (on (i + m) (omega arith) next (go m (omega arith)))

@@ -1,5 +1,6 @@
 -- Runs in two columns, one of code points and one of glyphs: pairs whose code points and glyphs both rise by one.
-use Prim.Native.Nat.{ℕ, _+_, _-_}
+use Prim.Native.Nat.{ℕ, _+_, _-_, _≤_, _<_}
+use mathlib.Core.Path.{_≡_}
 use mathlib.Core.List.{List}
 use mathlib.Core.Bool.{Bool, not}
 use lib.Dec.{eqb}
@@ -18,3 +19,9 @@ breaksAt cs gs k = breaks (getD cs (k - 1) 0) (getD gs (k - 1) 0) (getD cs k 0) 
 -- the first place behind i whose pair does not go on from the one before it; the number of pairs where there is none
 unfoldable pub runEnd : List ℕ → List ℕ → ℕ → ℕ
 runEnd cs gs i = first (breaksAt cs gs) (length cs - (i + 1)) (i + 1)
+
+-- r is that place, for i one of the pairs
+pub record Ends (cs gs : List ℕ) (i r : ℕ) : Type 0 where
+  pub is : r ≡ runEnd cs gs i
+  pub behind : i < r
+  pub within : r ≤ length cs
