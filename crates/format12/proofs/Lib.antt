@@ -2,3 +2,4 @@ pub mod GroupsLaws
 pub mod WalkLaws
 pub mod TableLaws
 pub mod MaximalLaws
+pub mod RunLaws

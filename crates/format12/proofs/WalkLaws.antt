@@ -1,13 +1,13 @@
 -- Walks over the two columns with the running group: what is left, done from here, gives the whole.
-use Prim.Native.Nat.{ℕ, _+_, _*_, _≤_, _<_}
+use Prim.Native.Nat.{ℕ, _+_, _-_, _*_, _≤_, _<_}
 use mathlib.Core.Path.{_≡_, refl, ap, _∙_}
 use mathlib.Core.List.{List, [], _∷_, _++_}
 use native.Mathlib.Nat.{zero-add}
-use native.Mathlib.Numerals.{add-one}
 use native.Mathlib.Omega.{arith}
-use lib.ListN.{length, getD, drop, length-append, drop-of-length-le}
-use lib.Seq.{sets, drop-cons, length-sets}
+use lib.ListN.{length, getD, length-append, drop-of-length-le}
+use lib.Seq.{sets, length-sets}
 use Rattle.laws.specs.Lists.{pairs}
+use Rattle.runs.specs.Runs.{Ends}
 use Rattle.laws.proofs.SetsLaws.{sets-append}
 use Rattle.number.specs.Row.{encs}
 use Rattle.number.proofs.RowLaws.{length-encs, encs-append}
@@ -17,17 +17,9 @@ use Rattle.format12.specs.declared.Absorbed.{Absorbed}
 use Rattle.format12.specs.declared.Ended.{Ended}
 use Rattle.format12.specs.declared.Ended.the-variants.{Nothing, One}
 use Rattle.format12.specs.Format12.{groups, fields, Columns}
-use Rattle.format12.specs.Steps.{idle, finish, step, toList, Counted, groupsFrom}
+use Rattle.format12.specs.Steps.{idle, upTo, finish, step, toList, Counted, groupsFrom}
 use Rattle.format12.proofs.GroupsLaws.{walk-groups}
-
--- the groups that are still to end at the i-th pair
-abbrev pub ahead : GroupState → List ℕ → List ℕ → ℕ → List Group
-ahead s cs gs i = groupsFrom s (pairs (drop i cs) (drop i gs))
-
-ahead-step : (s : GroupState) (cs gs : List ℕ) (i : ℕ) (a : Absorbed) → i < length cs → Columns cs gs → a ≡ step s (getD cs i 0) (getD gs i 0)
-    → ahead s cs gs i ≡ toList (a .ended) ++ ahead (a .state) cs gs (i + 1)
-unfolding groupsFrom
-ahead-step s cs gs i a h w e = rw (e, add-one i, drop-cons cs i 0 h, drop-cons gs i 0 (omega (arith, w .even)))
+use Rattle.format12.proofs.RunLaws.{ahead, ahead-step, ahead-run}
 
 ahead-end : (s : GroupState) (cs gs : List ℕ) (i : ℕ) (e : Ended) → length cs ≤ i → e ≡ finish s → ahead s cs gs i ≡ toList e
 unfolding groupsFrom
@@ -45,10 +37,12 @@ module _ (cs gs : List ℕ) (s : GroupState) where
   counting-start e = record { within = omega arith; few = omega arith; left = rw (e, walk-groups (pairs cs gs)) (zero-add _) }
 
   module _ (n i m : ℕ) (r : Counting cs gs s n i) where
-    pub counting-on : (a : Absorbed) → i < length cs → Columns cs gs → a ≡ step s (getD cs i 0) (getD gs i 0) → Counted (a .ended) m → Counting cs gs (a .state) (n + m) (i + 1)
-    counting-on a h w e c =
-        let l = ap length (ahead-step s cs gs i a h w e) ∙ length-append (toList (a .ended)) (ahead (a .state) cs gs (i + 1)) in
-        record { within = omega arith; few = omega (arith, r .few, c .most); left = omega (arith, r .left, c .is, l) }
+    -- a run: its first pair is absorbed, and the group gets to its last
+    pub counting-on : (a : Absorbed) (j : ℕ) (t : GroupState) → Columns cs gs → a ≡ step s (getD cs i 0) (getD gs i 0) → Counted (a .ended) m
+        → Ends cs gs i j → t ≡ upTo (a .state .start) (getD cs (j - 1) 0) (a .state .glyph) → Counting cs gs t (n + m) j
+    counting-on a j t w e c x g =
+        let l = ap length (ahead-run cs gs w s i a j t e x g) ∙ length-append (toList (a .ended)) (ahead t cs gs j) in
+        record { within = x .within; few = omega (arith, r .few, c .most, x .behind); left = omega (arith, r .left, c .is, l) }
 
     pub counting-done : (e : Ended) → length cs ≤ i → e ≡ finish s → Counted e m → n + m ≡ length (groups (pairs cs gs))
     counting-done e h d c = omega (arith, r .left, c .is, ap length (ahead-end s cs gs i e h d))
@@ -98,13 +92,18 @@ module _ (cs gs out₀ : List ℕ) (at : ℕ) where
       pub writing-room : to + 12 * length (toList (a .ended)) ≤ length out
       writing-room = omega (arith, w .room, w .same, l)
 
-      pub writing-on : (r : ℕ) (next : List ℕ) → r ≡ to + 12 * length (toList (a .ended)) → next ≡ sets out to (encs 4 (fields (toList (a .ended)))) → Writing cs gs out₀ at next (a .state) r (i + 1)
-      writing-on r next p q = record {
-        within = omega arith;
-        same = ap length q ∙ length-sets out to (encs 4 (fields (toList (a .ended)))) ∙ w .same;
-        room = omega (arith, p, l, w .room);
-        left = rw (q, sets-groups out to r (toList (a .ended)) (ahead (a .state) cs gs (i + 1)) p, ← ahead-step s cs gs i a h k e) (w .left);
-      }
+      -- a run: its first pair is absorbed, and the group gets to its last
+      pub writing-on : (r : ℕ) (next : List ℕ) → r ≡ to + 12 * length (toList (a .ended)) → next ≡ sets out to (encs 4 (fields (toList (a .ended))))
+          → (j : ℕ) (t : GroupState) → Ends cs gs i j → t ≡ upTo (a .state .start) (getD cs (j - 1) 0) (a .state .glyph) → Writing cs gs out₀ at next t r j
+      writing-on r next p q j t x g =
+          let f = ahead-run cs gs k s i a j t e x g in
+          let m = ap length f ∙ length-append (toList (a .ended)) (ahead t cs gs j) in
+          record {
+            within = x .within;
+            same = ap length q ∙ length-sets out to (encs 4 (fields (toList (a .ended)))) ∙ w .same;
+            room = omega (arith, p, m, w .room);
+            left = rw (q, sets-groups out to r (toList (a .ended)) (ahead t cs gs j) p, ← f) (w .left);
+          }
 
     module _ (e : Ended) (h : length cs ≤ i) (d : e ≡ finish s) where
       pub writing-room-end : to + 12 * length (toList e) ≤ length out

@@ -133,11 +133,11 @@ fn count_groups(codes: &[u32], glyphs: &[u16]) -> usize
     let mut i: usize = 0;
     while i < codes.len() {
         let a = state.absorb(codes[i], glyphs[i]);
-        let next = a.state;
+        let begun = a.state;
         let ended = a.ended;
         n += count_ended(ended);
-        state = next;
-        i += 1;
+        i = runs::run_end(codes, glyphs, i);
+        state = GroupState::up_to(begun.start, codes[i - 1], begun.glyph);
     }
     n + count_ended(state.finish())
 }
@@ -188,11 +188,11 @@ fn write_groups(out: &mut [u8], at: usize, codes: &[u32], glyphs: &[u16])
     let mut i: usize = 0;
     while i < codes.len() {
         let a = state.absorb(codes[i], glyphs[i]);
-        let next = a.state;
+        let begun = a.state;
         let ended = a.ended;
         to = put_ended(out, to, ended);
-        state = next;
-        i += 1;
+        i = runs::run_end(codes, glyphs, i);
+        state = GroupState::up_to(begun.start, codes[i - 1], begun.glyph);
     }
     put_ended(out, to, state.finish());
 }

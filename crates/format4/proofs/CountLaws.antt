@@ -1,5 +1,5 @@
 -- Counting segment by segment: the loop's invariant, and a rule for each way on.
-use Prim.Native.Nat.{ℕ, _+_, _*_, _≤_, _<_}
+use Prim.Native.Nat.{ℕ, _-_, _*_, _≤_, _<_}
 use mathlib.Core.Path.{_≡_, refl, sym, ap, _∙_}
 use mathlib.Core.List.{List, [], _∷_, _++_}
 use mathlib.Core.Bool.{Bool, true, false}
@@ -11,16 +11,18 @@ use Rattle.laws.proofs.ChoiceLaws.{false-true}
 use Rattle.laws.specs.Choice.{pick}
 use lib.ListN.{length, getD, drop, length-append}
 use Rattle.laws.specs.Lists.{Pair, pairs}
+use Rattle.runs.specs.Runs.{Ends}
 use Rattle.ranges.specs.declared.Segment.{Segment}
 use Rattle.ranges.specs.declared.Committed.{Committed}
 use Rattle.ranges.specs.declared.Committed.the-variants.{None, One, Two}
 use Rattle.ranges.specs.declared.RangeState.{RangeState}
 use Rattle.ranges.specs.declared.Absorbed.{Absorbed}
 use Rattle.ranges.specs.declared.Finished.{Finished}
-use Rattle.ranges.specs.Steps.{idle, step, finish, toList, cutFrom, entries}
+use Rattle.ranges.specs.Steps.{idle, grown, step, finish, toList, cutFrom, entries}
 use Rattle.ranges.specs.Cutting.{segments, closing}
 use Rattle.ranges.proofs.CuttingLaws.{segments-some, length-array}
 use Rattle.ranges.proofs.WalkLaws.{walk-cuts}
+use Rattle.ranges.proofs.RunLaws.{run-turn}
 use Rattle.ranges.proofs.StepsLaws.{entries-append, sink-step, sink-end}
 use Rattle.format4.specs.declared.RangeCounter.{RangeCounter}
 use Rattle.format4.specs.Format4.{format4}
@@ -67,13 +69,15 @@ pub record Counting (cs gs : List ℕ) (s : RangeState) (n : RangeCounter) (i : 
 pub counting-start : (cs gs : List ℕ) (s : RangeState) (n : RangeCounter) → s ≡ idle → n ≡ counter 0 0 → Counting cs gs s n 0
 counting-start cs gs s n e f = rw (e, f) (record { within = omega arith; segments = omega arith; glyphs = omega arith; left = count-is (pairs cs gs) })
 
-pub counting-on : (cs gs : List ℕ) (s : RangeState) (n : RangeCounter) (i : ℕ) (a : Absorbed) (m : RangeCounter)
-    → Columns cs gs → Counting cs gs s n i → i < length cs → a ≡ step s (getD cs i 0) (getD gs i 0) → Adds n (toList (a .out)) m → Counting cs gs (a .state) m (i + 1)
-counting-on cs gs s n i a m k l h e t = record {
-  within = omega arith;
-  segments = rw (t .is) (omega (arith, l .segments, few (a .out)));
-  glyphs = omega (arith, l .glyphs, t .glyphs, few (a .out));
-  left = sink-step counted counted-append s cs gs i a n m h (omega (arith, k .even)) e (t .is) ∙ l .left;
+-- a run: its first pair is absorbed, and the state grows to its last
+pub counting-on : (cs gs : List ℕ) (s : RangeState) (n : RangeCounter) (i : ℕ) (a : Absorbed) (m : RangeCounter) (e : ℕ) (t : RangeState)
+    → Columns cs gs → Counting cs gs s n i → a ≡ step s (getD cs i 0) (getD gs i 0) → Adds n (toList (a .out)) m
+    → Ends cs gs i e → t ≡ grown (a .state) (getD cs (e - 1) 0) (getD gs (e - 1) 0) → Counting cs gs t m e
+counting-on cs gs s n i a m e t k l p u r g = record {
+  within = r .within;
+  segments = rw (u .is) (omega (arith, l .segments, few (a .out), r .behind));
+  glyphs = omega (arith, l .glyphs, u .glyphs, few (a .out), r .behind);
+  left = sink-step counted counted-append (a .out) _ _ n m (run-turn cs gs s i a e t (k .even) p r g) (u .is) ∙ l .left;
 }
 
 -- past the last pair

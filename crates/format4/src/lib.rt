@@ -107,11 +107,11 @@ fn find_segcount(codes: &[u32], glyphs: &[u16]) -> RangeCounter
     let mut i: usize = 0;
     while i < codes.len() {
         let a = state.absorb(codes[i] as u16, glyphs[i]);
-        let next = a.state;
+        let begun = a.state;
         let out = a.out;
         n = n.absorb(out);
-        state = next;
-        i += 1;
+        i = runs::run_end(codes, glyphs, i);
+        state = begun.grow(codes[i - 1] as u16, glyphs[i - 1]);
     }
     let f = state.finish();
     let out = f.out;

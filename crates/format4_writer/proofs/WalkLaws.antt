@@ -6,18 +6,20 @@ use native.Mathlib.Omega.{arith}
 use lib.ListN.{length, getD, drop, length-append}
 use lib.Seq.{length-sets}
 use Rattle.laws.specs.Lists.{pairs}
+use Rattle.runs.specs.Runs.{Ends}
 use Rattle.number.specs.Row.{encs}
 use Rattle.number.proofs.BigEndianLaws.{length-put}
 use Rattle.ranges.specs.declared.Segment.{Segment}
 use Rattle.ranges.specs.declared.RangeState.{RangeState}
 use Rattle.ranges.specs.declared.Absorbed.{Absorbed}
 use Rattle.ranges.specs.declared.Finished.{Finished}
-use Rattle.ranges.specs.Steps.{idle, step, finish, toList, cutFrom}
+use Rattle.ranges.specs.Steps.{idle, grown, step, finish, toList, cutFrom}
 use Rattle.ranges.proofs.StepsLaws.{entries-append, walk-step, walk-end}
 use Rattle.format4.specs.Size.{Columns}
 use Rattle.format4.specs.Walk.{Fed}
 use Rattle.ranges.specs.Cutting.{segments, closing, points}
 use Rattle.ranges.proofs.WalkLaws.{walk-cuts}
+use Rattle.ranges.proofs.RunLaws.{run-turn}
 use Rattle.format4_writer.specs.declared.RangeWriter.{RangeWriter}
 use Rattle.format4_writer.specs.Places.{partOf, nextOf, putOne, putAll, movedBy, Room, columnsAt, Apart}
 use Rattle.format4_writer.proofs.PlacesLaws.{put-columns}
@@ -99,15 +101,16 @@ module _ (cs gs o₀ : List ℕ) (w₀ : RangeWriter) (s : RangeState) (o : List
   whole = columnsAt gs o₀ w₀ 0 (segments (pairs cs gs))
 
   module _ (a : Absorbed) (k : Columns cs gs) (h : i < length cs) (e : a ≡ step s (getD cs i 0) (getD gs i 0)) where
-    turn : Left gs o w (toList (a .out) ++ cutFrom (a .state) (pairs (drop (i + 1) cs) (drop (i + 1) gs))) (length o₀) whole
-    turn = rw (walk-step s cs gs i h (omega (arith, k .even)), ← e) at (l .left)
-
     pub writing-room : Room w (toList (a .out)) (length gs) (length o)
-    writing-room = left-room (toList (a .out)) _ turn
+    writing-room = left-room (toList (a .out)) _ (rw (walk-step s cs gs i h (omega (arith, k .even)), ← e) at (l .left))
 
+    -- a run: its first pair is absorbed, and the state grows to its last
     pub writing-on : (p : List ℕ) (v : RangeWriter) → (v ≡ movedBy w (toList (a .out))) × (p ≡ putAll gs o w (toList (a .out)))
-        → Writing cs gs o₀ w₀ (a .state) p v (i + 1)
-    writing-on p v t = record { within = omega arith; left = left-next (toList (a .out)) _ turn (t .0) (t .1) }
+        → (j : ℕ) (t : RangeState) → Ends cs gs i j → t ≡ grown (a .state) (getD cs (j - 1) 0) (getD gs (j - 1) 0) → Writing cs gs o₀ w₀ t p v j
+    writing-on p v u j t r g = record {
+      within = r .within;
+      left = left-next (toList (a .out)) _ (rw (run-turn cs gs s i a j t (k .even) e r g) at (l .left)) (u .0) (u .1);
+    }
 
   module _ (f : Finished) (h : length cs ≤ i) (e : f ≡ finish s) where
     end : Left gs o w (toList (f .out) ++ closing (f .close)) (length o₀) whole

@@ -211,11 +211,11 @@ fn write_columns(out: &mut [u8], codes: &[u32], glyphs: &[u16], at: RangeWriter)
     let mut i: usize = 0;
     while i < codes.len() {
         let a = state.absorb(codes[i] as u16, glyphs[i]);
-        let next = a.state;
+        let begun = a.state;
         let c = a.out;
         w = w.absorb(out, glyphs, c);
-        state = next;
-        i += 1;
+        i = runs::run_end(codes, glyphs, i);
+        state = begun.grow(codes[i - 1] as u16, glyphs[i - 1]);
     }
     let f = state.finish();
     let c = f.out;

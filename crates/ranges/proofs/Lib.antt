@@ -1,3 +1,4 @@
 pub mod StepsLaws
 pub mod CuttingLaws
 pub mod WalkLaws
+pub mod RunLaws

@@ -12,7 +12,7 @@ use Rattle.laws.specs.Choice.{pick}
 use Rattle.laws.specs.Lists.{pairs}
 use Rattle.ranges.specs.declared.RangeState.{RangeState}
 use Rattle.ranges.specs.declared.Segment.{Segment}
-use Rattle.ranges.specs.declared.Absorbed.{Absorbed}
+use Rattle.ranges.specs.declared.Committed.{Committed}
 use Rattle.ranges.specs.declared.Finished.{Finished}
 use Rattle.ranges.specs.Steps.{costOf, cutFrom, step, finish, toList, entries}
 use Rattle.ranges.specs.Cutting.{closing, entriesOf}
@@ -43,12 +43,9 @@ walk-end s cs gs i p = rw (drop-of-length-le cs p)
 
 -- ---- one law for every walk: x is what the walk has made so far, and `run x ss` what it makes of the segments ss on top of x
 module _ {X : Type 0} (run : X → List Segment → X) (app : (x : X) (a b : List Segment) → run x (a ++ b) ≡ run (run x a) b) where
-  pub sink-step : (s : RangeState) (cs gs : List ℕ) (i : ℕ) (a : Absorbed) (x x′ : X) → i < length cs → i < length gs
-      → a ≡ step s (getD cs i 0) (getD gs i 0) → x′ ≡ run x (toList (a .out))
-      → run x′ (cutFrom (a .state) (pairs (drop (i + 1) cs) (drop (i + 1) gs))) ≡ run x (cutFrom s (pairs (drop i cs) (drop i gs)))
-  sink-step s cs gs i a x x′ p q e h =
-      rw (h, e, walk-step s cs gs i p q)
-      (sym (app x (toList (step s (getD cs i 0) (getD gs i 0) .out)) (cutFrom (step s (getD cs i 0) (getD gs i 0) .state) (pairs (drop (i + 1) cs) (drop (i + 1) gs)))))
+  -- what is committed is made of x, and then what is left
+  pub sink-step : (o : Committed) (before after : List Segment) (x x′ : X) → before ≡ toList o ++ after → x′ ≡ run x (toList o) → run x′ after ≡ run x before
+  sink-step o before after x x′ e h = rw (h, e) (sym (app x (toList o) after))
 
   pub sink-end : (s : RangeState) (cs gs : List ℕ) (i : ℕ) (f : Finished) (x x′ : X) → length cs ≤ i
       → f ≡ finish s → x′ ≡ run x (toList (f .out)) → run x′ (closing (f .close)) ≡ run x (cutFrom s (pairs (drop i cs) (drop i gs)))

@@ -23,7 +23,7 @@ idle = record { running = false; later = false; start = 0; prev = 0; prevdelta =
 abbrev pub begun : ℕ → ℕ → RangeState
 begun c g = record { running = true; later = false; start = c; prev = c; prevdelta = 0; run = c; delta = pairDelta c g; end = c; glyph = g }
 
--- the run goes on with c
+-- the run goes on up to c
 abbrev pub grown : RangeState → ℕ → ℕ → RangeState
 grown s c g = record { running = s .running; later = s .later; start = s .start; prev = s .prev; prevdelta = s .prevdelta; run = s .run; delta = s .delta; end = c; glyph = g }
 

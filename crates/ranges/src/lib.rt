@@ -91,8 +91,8 @@ impl RangeState {
         }
     }
 
-    // The run goes on.
-    fn grow(mut self, c: u16, g: u16) -> Self
+    // The run goes on up to c.
+    pub fn grow(mut self, c: u16, g: u16) -> Self
         ensures { λ r. ⌜ r ≡ grown self c g ⌝ }
     {
         self.end = c;

@@ -1,10 +1,10 @@
 -- What was counted and what is still to end are together the groups of the definition.
-use Prim.Native.Nat.{_-_}
-use lib.ListN.{length}
-use borrow.Author.Needs.{needs}
-use Rattle.format12.proofs.WalkLaws.{Counting, counting}
 use Rattle.format12.proofs.count_groups.Statement.{statement}
 use Rattle.format12.proofs.count_groups.Tie as tie
+use Rattle.format12.proofs.WalkLaws.{Counting, counting}
+use borrow.Author.Needs.{needs}
+use lib.ListN.{length}
+use Prim.Native.Nat.{_-_}
 
 abbrev Inv-loop : tie.InvT-loop
 Inv-loop codes glyphs state₀ n₀ i₀ state n i = Counting codes glyphs state n i
@@ -39,8 +39,20 @@ count-ended-requires c κs = search needs
 add-n : tie.Need-add-n Inv-loop μ-loop
 add-n c = search needs
 
-add-i : tie.Need-add-i Inv-loop μ-loop
-add-i c = search needs
+run-end-requires : tie.Need-run-end-requires Inv-loop μ-loop
+run-end-requires c κs = search needs
+
+sub-up-to : tie.Need-sub-up-to Inv-loop μ-loop
+sub-up-to c = search needs
+
+mul-up-to : tie.Need-mul-up-to Inv-loop μ-loop
+mul-up-to c = search needs
+
+shared-slice-read-up-to : tie.Need-shared-slice-read-up-to Inv-loop μ-loop
+shared-slice-read-up-to c = search needs
+
+up-to-requires : tie.Need-up-to-requires Inv-loop μ-loop
+up-to-requires c κs = search needs
 
 loop-less : tie.Need-loop-less Inv-loop μ-loop
 loop-less c = search needs
@@ -75,7 +87,11 @@ count-groups-spec =
     absorb-requires
     count-ended-requires
     add-n
-    add-i
+    run-end-requires
+    sub-up-to
+    mul-up-to
+    shared-slice-read-up-to
+    up-to-requires
     loop-less
     loop-again
     finish-requires

@@ -1,10 +1,10 @@
 -- What is still to end, written behind what was, gives the groups of the definition.
-use Prim.Native.Nat.{_-_}
-use lib.ListN.{length}
-use borrow.Author.Needs.{needs}
-use Rattle.format12.proofs.WalkLaws.{Writing, writing}
 use Rattle.format12.proofs.write_groups.Statement.{statement}
 use Rattle.format12.proofs.write_groups.Tie as tie
+use Rattle.format12.proofs.WalkLaws.{Writing, writing}
+use borrow.Author.Needs.{needs}
+use lib.ListN.{length}
+use Prim.Native.Nat.{_-_}
 
 abbrev Inv-loop : tie.InvT-loop
 Inv-loop out₀ at codes glyphs state₀ to₀ i₀ out state to i = Writing codes glyphs out₀ at out state to i
@@ -36,8 +36,20 @@ absorb-requires c κs = search needs
 put-ended-requires : tie.Need-put-ended-requires Inv-loop μ-loop
 put-ended-requires c κs = search writing
 
-add-i : tie.Need-add-i Inv-loop μ-loop
-add-i c = search needs
+run-end-requires : tie.Need-run-end-requires Inv-loop μ-loop
+run-end-requires c κs = search needs
+
+sub-up-to : tie.Need-sub-up-to Inv-loop μ-loop
+sub-up-to c = search needs
+
+mul-up-to : tie.Need-mul-up-to Inv-loop μ-loop
+mul-up-to c = search needs
+
+shared-slice-read-up-to : tie.Need-shared-slice-read-up-to Inv-loop μ-loop
+shared-slice-read-up-to c = search needs
+
+up-to-requires : tie.Need-up-to-requires Inv-loop μ-loop
+up-to-requires c κs = search needs
 
 loop-less : tie.Need-loop-less Inv-loop μ-loop
 loop-less c = search needs
@@ -71,7 +83,11 @@ write-groups-spec =
     shared-slice-read-absorb-2
     absorb-requires
     put-ended-requires
-    add-i
+    run-end-requires
+    sub-up-to
+    mul-up-to
+    shared-slice-read-up-to
+    up-to-requires
     loop-less
     loop-again
     finish-requires

@@ -1,15 +1,14 @@
--- Counting what each pair commits, and then what is left and the closing segment, counts the whole cut.
-use Prim.Native.Nat.{_-_}
-use native.Mathlib.Omega.{arith}
-use lib.ListN.{length}
-use Rattle.format4.proofs.CountLaws.{Counting, counting-start, counting-on, ending-below, counting-end}
-use borrow.Author.Needs.{needs}
+-- Counting what the first pair of each run commits, and then what is left and the closing segment, counts the whole cut.
 use Rattle.format4.proofs.find_segcount.Statement.{statement}
 use Rattle.format4.proofs.find_segcount.Tie as tie
 use Rattle.format4.proofs.RangeCounter.absorb.Reads as RangeCounter-absorb-reads
 use Rattle.format4.proofs.RangeCounter.new.Reads as RangeCounter-new-reads
 use Rattle.ranges.proofs.RangeState.absorb.Reads as RangeState-absorb-reads
 use Rattle.ranges.proofs.RangeState.new.Reads as RangeState-new-reads
+use Prim.Native.Nat.{_-_}
+use lib.ListN.{length}
+use borrow.Author.Needs.{needs}
+use Rattle.format4.proofs.CountLaws.{Counting, counting-start, counting-on, ending-below, counting-end}
 
 abbrev Inv-loop : tie.InvT-loop
 Inv-loop codes glyphs state₀ n₀ i₀ state n i = Counting codes glyphs state n i
@@ -33,13 +32,13 @@ shared-slice-read-absorb : tie.Need-shared-slice-read-absorb Inv-loop μ-loop
 shared-slice-read-absorb c = search needs
 
 cast-absorb : tie.Need-cast-absorb Inv-loop μ-loop
-cast-absorb c = record { fits = c .before .before .before .before .before .before .before .pre .low (c .before .before .loop .i) }
+cast-absorb c = record { fits = c .before .before .before .before .before .before .before .pre .low _ }
 
 mul-absorb-2 : tie.Need-mul-absorb-2 Inv-loop μ-loop
 mul-absorb-2 c = search needs
 
 shared-slice-read-absorb-2 : tie.Need-shared-slice-read-absorb-2 Inv-loop μ-loop
-shared-slice-read-absorb-2 c = omega (arith, c .before .before .before .before .before .before .before .before .pre .even)
+shared-slice-read-absorb-2 c = search needs
 
 absorb-requires : tie.Need-absorb-requires Inv-loop μ-loop
 absorb-requires c κs = search needs
@@ -47,8 +46,32 @@ absorb-requires c κs = search needs
 absorb-requires-2 : tie.Need-absorb-requires-2 Inv-loop μ-loop
 absorb-requires-2 c κs = search needs
 
-add-i : tie.Need-add-i Inv-loop μ-loop
-add-i c = search needs
+run-end-requires : tie.Need-run-end-requires Inv-loop μ-loop
+run-end-requires c κs = search needs
+
+sub-grow : tie.Need-sub-grow Inv-loop μ-loop
+sub-grow c = search needs
+
+mul-grow : tie.Need-mul-grow Inv-loop μ-loop
+mul-grow c = search needs
+
+shared-slice-read-grow : tie.Need-shared-slice-read-grow Inv-loop μ-loop
+shared-slice-read-grow c = search needs
+
+cast-grow : tie.Need-cast-grow Inv-loop μ-loop
+cast-grow c = record { fits = c .before .before .before .before .before .before .before .before .before .before .before .before .before .pre .low _ }
+
+sub-grow-2 : tie.Need-sub-grow-2 Inv-loop μ-loop
+sub-grow-2 c = search needs
+
+mul-grow-2 : tie.Need-mul-grow-2 Inv-loop μ-loop
+mul-grow-2 c = search needs
+
+shared-slice-read-grow-2 : tie.Need-shared-slice-read-grow-2 Inv-loop μ-loop
+shared-slice-read-grow-2 c = search needs
+
+grow-requires : tie.Need-grow-requires Inv-loop μ-loop
+grow-requires c κs = search needs
 
 loop-less : tie.Need-loop-less Inv-loop μ-loop
 loop-less c = search needs
@@ -84,7 +107,15 @@ find-segcount-spec =
     shared-slice-read-absorb-2
     absorb-requires
     absorb-requires-2
-    add-i
+    run-end-requires
+    sub-grow
+    mul-grow
+    shared-slice-read-grow
+    cast-grow
+    sub-grow-2
+    mul-grow-2
+    shared-slice-read-grow-2
+    grow-requires
     loop-less
     loop-again
     finish-requires

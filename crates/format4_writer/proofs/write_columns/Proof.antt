@@ -1,14 +1,14 @@
--- What each pair commits is written behind what was; with the rest and the closing segment it is every column.
-use Prim.Native.Nat.{_-_}
-use mathlib.Core.Path.{_∙_}
-use native.Mathlib.Omega.{arith}
-use lib.ListN.{length}
-use Rattle.format4_writer.proofs.WalkLaws.{Writing, writing-start, writing-room, writing-on, ending-room, closing-room, ended-long, ended-is}
-use borrow.Author.Needs.{needs}
+-- What the first pair of each run commits is written behind what was; with the rest and the closing segment it is every column.
 use Rattle.format4_writer.proofs.write_columns.Statement.{statement}
 use Rattle.format4_writer.proofs.write_columns.Tie as tie
 use Rattle.format4_writer.proofs.RangeWriter.absorb.Reads as RangeWriter-absorb-reads
 use Rattle.ranges.proofs.RangeState.absorb.Reads as RangeState-absorb-reads
+use borrow.Author.Needs.{needs}
+use Rattle.format4_writer.proofs.WalkLaws.{Writing, writing-start, writing-room, writing-on, ending-room, closing-room, ended-long, ended-is}
+use lib.ListN.{length}
+use native.Mathlib.Omega.{arith}
+use mathlib.Core.Path.{_∙_}
+use Prim.Native.Nat.{_-_}
 
 abbrev Inv-loop : tie.InvT-loop
 Inv-loop out₀ codes glyphs state₀ w₀ i₀ out state w i = Writing codes glyphs out₀ w₀ state out w i
@@ -29,7 +29,7 @@ shared-slice-read-absorb : tie.Need-shared-slice-read-absorb Inv-loop μ-loop
 shared-slice-read-absorb c = search needs
 
 cast-absorb : tie.Need-cast-absorb Inv-loop μ-loop
-cast-absorb c = record { fits = c .before .before .before .before .before .before .before .pre .0 .low (c .before .before .loop .i) }
+cast-absorb c = record { fits = c .before .before .before .before .before .before .before .pre .0 .low _ }
 
 mul-absorb-2 : tie.Need-mul-absorb-2 Inv-loop μ-loop
 mul-absorb-2 c = search needs
@@ -43,14 +43,38 @@ absorb-requires c κs = search needs
 absorb-requires-2 : tie.Need-absorb-requires-2 Inv-loop μ-loop
 absorb-requires-2 c κs = writing-room _ _ _ _ _ _ _ _ (c .before .before .before .before .before .before .loop .inv) _ (c .before .before .before .before .before .before .before .before .before .before .before .pre .0) (c .before .before .before .before .before .loop-test .taken) (c .before .before .absorb .ensures)
 
-add-i : tie.Need-add-i Inv-loop μ-loop
-add-i c = search needs
+run-end-requires : tie.Need-run-end-requires Inv-loop μ-loop
+run-end-requires c κs = search needs
+
+sub-grow : tie.Need-sub-grow Inv-loop μ-loop
+sub-grow c = search needs
+
+mul-grow : tie.Need-mul-grow Inv-loop μ-loop
+mul-grow c = search needs
+
+shared-slice-read-grow : tie.Need-shared-slice-read-grow Inv-loop μ-loop
+shared-slice-read-grow c = search needs
+
+cast-grow : tie.Need-cast-grow Inv-loop μ-loop
+cast-grow c = record { fits = c .before .before .before .before .before .before .before .before .before .before .before .before .before .before .before .before .pre .0 .low _ }
+
+sub-grow-2 : tie.Need-sub-grow-2 Inv-loop μ-loop
+sub-grow-2 c = search needs
+
+mul-grow-2 : tie.Need-mul-grow-2 Inv-loop μ-loop
+mul-grow-2 c = search needs
+
+shared-slice-read-grow-2 : tie.Need-shared-slice-read-grow-2 Inv-loop μ-loop
+shared-slice-read-grow-2 c = omega (arith, c .before .before .before .before .before .before .before .before .before .before .before .before .before .before .before .before .before .pre .0 .even)
+
+grow-requires : tie.Need-grow-requires Inv-loop μ-loop
+grow-requires c κs = search needs
 
 loop-less : tie.Need-loop-less Inv-loop μ-loop
 loop-less c = search needs
 
 loop-again : tie.Need-loop-again Inv-loop μ-loop
-loop-again c = writing-on _ _ _ _ _ _ _ _ (c .before .before .before .before .before .before .before .before .before .loop .inv) _ (c .before .before .before .before .before .before .before .before .before .before .before .before .before .before .pre .0) (c .before .before .before .before .before .before .before .before .loop-test .taken) (c .before .before .before .before .before .absorb .ensures) _ _ (c .before .before .absorb2 .ensures)
+loop-again c = writing-on _ _ _ _ _ _ _ _ (c .before .before .before .before .before .before .before .before .before .before .before .before .before .loop .inv) _ (c .before .before .before .before .before .before .before .before .before .before .before .before .before .before .before .before .before .before .pre .0) (c .before .before .before .before .before .before .before .before .before .before .before .before .loop-test .taken) (c .before .before .before .before .before .before .before .before .before .absorb .ensures) _ _ (c .before .before .before .before .before .before .absorb2 .ensures) _ _ (c .before .before .before .run-end .ensures) (c .grow .ensures)
 
 finish-requires : tie.Need-finish-requires Inv-loop μ-loop
 finish-requires c κs = search needs
@@ -82,7 +106,15 @@ write-columns-spec =
     shared-slice-read-absorb-2
     absorb-requires
     absorb-requires-2
-    add-i
+    run-end-requires
+    sub-grow
+    mul-grow
+    shared-slice-read-grow
+    cast-grow
+    sub-grow-2
+    mul-grow-2
+    shared-slice-read-grow-2
+    grow-requires
     loop-less
     loop-again
     finish-requires
