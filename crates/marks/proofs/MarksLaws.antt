@@ -162,26 +162,58 @@ pub cleared-flagged : (p : ℕ → Bool) (ps fs₀ fs fs′ : List ℕ) → fs �
 cleared-flagged p ps fs₀ fs fs′ e d =
     d ∙ rw e (sets-over fs₀ 0 (replicate (length ps) 0) (flagged p ps) (rw (length-flagged p ps) (length-replicate {A = ℕ} (length ps) 0)))
 
-pub record Clearing (fs₀ fs : List ℕ) (n i : ℕ) : Type 0 where
-  pub within : i ≤ n
-  pub left : sets fs i (replicate (n - i) 0) ≡ sets fs₀ 0 (replicate n 0)
+-- the flags from low up to i are v: what is left up to high, from here, gives the whole
+pub record Filling (v : ℕ) (fs₀ fs : List ℕ) (low high i : ℕ) : Type 0 where
+  pub from : low ≤ i
+  pub left : sets fs i (replicate (high - i) v) ≡ sets fs₀ low (replicate (high - low) v)
   pub same : length fs ≡ length fs₀
 
-pub clearing-start : (fs₀ : List ℕ) (n : ℕ) → Clearing fs₀ fs₀ n 0
-clearing-start fs₀ n = record { within = omega arith; left = rw (sub-zero n); same = refl }
+pub filling-start : (v : ℕ) (fs₀ : List ℕ) (low high : ℕ) → Filling v fs₀ fs₀ low high low
+filling-start v fs₀ low high = record { from = omega arith; left = refl; same = refl }
 
-module _ {fs₀ fs : List ℕ} {n i : ℕ} (l : Clearing fs₀ fs n i) where
-  pub clearing-on : i < n → Clearing fs₀ (set fs i 0) n (i + 1)
-  clearing-on h =
-      let m : n - i ≡ suc (n - (i + 1)) = omega arith in
-      record { within = omega arith; left = rw (add-one i) (rw (m, add-one i) at (l .left)); same = length-set fs i 0 ∙ l .same }
+module _ {v : ℕ} {fs₀ fs : List ℕ} {low high i : ℕ} (l : Filling v fs₀ fs low high i) where
+  pub filling-on : i < high → Filling v fs₀ (set fs i v) low high (i + 1)
+  filling-on h =
+      let m : high - i ≡ suc (high - (i + 1)) = omega arith in
+      record { from = omega (arith, l .from); left = rw (add-one i) (rw (m, add-one i) at (l .left)); same = length-set fs i v ∙ l .same }
 
-  pub clearing-done : n ≤ i → fs ≡ sets fs₀ 0 (replicate n 0)
-  clearing-done h =
-      let m : n - i ≡ 0 = omega arith in
+  pub filling-done : high ≤ i → fs ≡ sets fs₀ low (replicate (high - low) v)
+  filling-done h =
+      let m : high - i ≡ 0 = omega arith in
       rw m at (l .left)
 
-pub ruleset clearing = (clearing-start, clearing-on, clearing-done)
+-- from the front
+pub filling-front : {v : ℕ} {fs₀ fs : List ℕ} {n i : ℕ} → Filling v fs₀ fs 0 n i → n ≤ i → fs ≡ sets fs₀ 0 (replicate n v)
+filling-front {n = n} l h = rw (sub-zero n) at (filling-done l h)
+
+pub ruleset filling = (filling-start, filling-on, filling-done, filling-front)
+
+-- the first of the flags by itself
+module _ (v : ℕ) (fs : List ℕ) (low high : ℕ) where
+  pub filled-none : high ≤ low → fs ≡ sets fs low (replicate (high - low) v)
+  filled-none h = filling-done (filling-start v fs low high) h
+
+  pub filled-one : low < high → high ≤ low + 1 → set fs low v ≡ sets fs low (replicate (high - low) v)
+  filled-one h l = filling-done (filling-on (filling-start v fs low high) h) l
+
+  pub filled-more : (fs′ : List ℕ) → low < high → fs′ ≡ sets (set fs low v) (low + 1) (replicate (high - (low + 1)) v) → fs′ ≡ sets fs low (replicate (high - low) v)
+  filled-more fs′ h e = e ∙ filling-on (filling-start v fs low high) h .left
+
+  pub filled-length : (fs′ : List ℕ) → low < high → fs′ ≡ sets (set fs low v) (low + 1) (replicate (high - (low + 1)) v) → length fs′ ≡ length fs
+  filled-length fs′ h e = rw (filled-more fs′ h e) (length-sets fs low (replicate (high - low) v))
+
+pub ruleset filled = (filled-none, filled-one, filled-more, filled-length)
+
+-- stores of what is always said are a filling
+stores-ones : (ps : List ℕ) (k i : ℕ) (fs : List ℕ) → stores (λ c. true) ps k i fs ≡ sets fs i (replicate k 1)
+unfolding stores
+stores-ones ps zero i fs = refl
+stores-ones ps (suc k) i fs = stores-ones ps k (suc i) (set fs i 1)
+
+pub marked-filled : (a e low high : ℕ) (ps fs fs′ : List ℕ) → Bound ps a low → Bound ps (e + 1) high → Flags ps fs
+    → fs′ ≡ sets fs low (replicate (high - low) 1) → fs′ ≡ painted (between a e) (λ c. true) ps fs
+marked-filled a e low high ps fs fs′ b d k h =
+    h ∙ sym (stores-ones ps (high - low) low fs) ∙ rw (b .is, d .is) (painted-stores (λ c. true) a e ps fs (k .rising) (k .beside))
 
 -- ---- what is copied
 

@@ -1,69 +1,64 @@
--- The points that the segment holds stand side by side, and each gets the segment's word.
-use borrow.Author.Needs.{needs}
-use Prim.Native.Nat.{_-_}
-use Rattle.marks.proofs.BelowLaws.{inside}
-use Rattle.marks.proofs.MarksLaws.{Painting, painting}
-use Rattle.mapped4.specs.Mapped4.{says4}
 use Rattle.mapped4.proofs.mark_segment.Statement.{statement}
 use Rattle.mapped4.proofs.mark_segment.Tie as tie
+use Rattle.mapped4.proofs.mark_segment.Reads as reads
+use Rattle.mapped4.proofs.mark_segment.Lts as lts
+use Rattle.mapped4.proofs.flag_of.Reads as flag-of-reads
+use Rattle.mapped4.proofs.segment_maps.Reads as segment-maps-reads
+use Rattle.marks.proofs.span_near.Reads as span-near-reads
 
 abbrev Inv-loop : tie.InvT-loop
-Inv-loop s at segs len i segment points flags₀ near low high j₀ flags j = Painting (says4 s at segs len i segment) points flags₀ flags low high j
+Inv-loop s at segs len i segment points flags₀ near span j₀ flags j = ?
 
 abbrev μ-loop : tie.MeasureT-loop
-μ-loop s at segs len i segment points flags₀ near low high j₀ flags j = high - j
+μ-loop s at segs len i segment points flags₀ near span j₀ flags j = ?
 
-cast-count-near : tie.Need-cast-count-near Inv-loop μ-loop
-cast-count-near c = search needs
+-- src/lib.rt:151:9
+span-near-requires : tie.Need-span-near-requires Inv-loop μ-loop
+span-near-requires c κs = ?
 
-count-near-requires : tie.Need-count-near-requires Inv-loop μ-loop
-count-near-requires c κs = search needs
-
-cast-count-near-2 : tie.Need-cast-count-near-2 Inv-loop μ-loop
-cast-count-near-2 c = search needs
-
-add-count-near : tie.Need-add-count-near Inv-loop μ-loop
-add-count-near c = search needs
-
-count-near-requires-2 : tie.Need-count-near-requires-2 Inv-loop μ-loop
-count-near-requires-2 c κs = search needs
-
+-- src/lib.rt:153:5
 loop-holds : tie.Need-loop-holds Inv-loop μ-loop
-loop-holds c = search painting
+loop-holds c = ?
 
+-- src/lib.rt:154:17
 mul-c : tie.Need-mul-c Inv-loop μ-loop
-mul-c c = search needs
+mul-c c = ?
 
+-- src/lib.rt:154:17
 shared-slice-read-c : tie.Need-shared-slice-read-c Inv-loop μ-loop
-shared-slice-read-c c = search needs
+shared-slice-read-c c = ?
 
+-- src/lib.rt:155:28
 segment-maps-requires : tie.Need-segment-maps-requires Inv-loop μ-loop
-segment-maps-requires c κs =
-    let first = c .before .before .before .before .before .count-near .ensures in
-    let last = c .before .before .before .count-near2 .ensures in
-    let here = c .before .before .loop .inv .from in
-    (search needs, (search needs, (search needs, inside _ _ _ _ _ _ (c .before .before .before .before .before .before .before .before .before .before .pre .1 .1 .1 .rising) first last here (c .before .loop-test .taken))))
+segment-maps-requires c κs = ?
 
+-- src/lib.rt:155:20
 flag-of-requires : tie.Need-flag-of-requires Inv-loop μ-loop
-flag-of-requires c κs = search needs
+flag-of-requires c κs = ?
 
+-- src/lib.rt:155:9
 slice-write-flags : tie.Need-slice-write-flags Inv-loop μ-loop
-slice-write-flags c = search needs
+slice-write-flags c = ?
 
+-- src/lib.rt:156:9
 add-j : tie.Need-add-j Inv-loop μ-loop
-add-j c = search needs
+add-j c = ?
 
+-- src/lib.rt:153:5
 loop-less : tie.Need-loop-less Inv-loop μ-loop
-loop-less c = search needs
+loop-less c = ?
 
+-- src/lib.rt:153:5
 loop-again : tie.Need-loop-again Inv-loop μ-loop
-loop-again c = search painting
+loop-again c = ?
 
+-- src/lib.rt:133:1
 same-length : tie.Need-same-length Inv-loop μ-loop
-same-length c = search needs
+same-length c = ?
 
+-- src/lib.rt:133:1
 returns : tie.Need-returns Inv-loop μ-loop
-returns c = (search needs, search painting)
+returns c = ?
 
 pub mark-segment-spec : {M : Type 1} → statement M
 mark-segment-spec =
@@ -71,11 +66,7 @@ mark-segment-spec =
     (tie.spec
     Inv-loop
     μ-loop
-    cast-count-near
-    count-near-requires
-    cast-count-near-2
-    add-count-near
-    count-near-requires-2
+    span-near-requires
     loop-holds
     mul-c
     shared-slice-read-c
