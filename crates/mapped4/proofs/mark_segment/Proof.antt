@@ -1,64 +1,53 @@
+-- The points that the segment holds stand side by side, and each gets the segment's word.
+use borrow.Author.Needs.{needs}
+use Prim.Native.Nat.{_-_}
+use Rattle.marks.proofs.BelowLaws.{inside}
+use Rattle.marks.proofs.MarksLaws.{Painting, painting}
+use Rattle.mapped4.specs.Mapped4.{says4}
 use Rattle.mapped4.proofs.mark_segment.Statement.{statement}
 use Rattle.mapped4.proofs.mark_segment.Tie as tie
-use Rattle.mapped4.proofs.mark_segment.Reads as reads
-use Rattle.mapped4.proofs.mark_segment.Lts as lts
-use Rattle.mapped4.proofs.flag_of.Reads as flag-of-reads
-use Rattle.mapped4.proofs.segment_maps.Reads as segment-maps-reads
-use Rattle.marks.proofs.span_near.Reads as span-near-reads
 
 abbrev Inv-loop : tie.InvT-loop
-Inv-loop s at segs len i segment points flags₀ near span j₀ flags j = ?
+Inv-loop s at segs len i segment points flags₀ near span j₀ flags j = Painting (says4 s at segs len i segment) points flags₀ flags (span .low) (span .high) j
 
 abbrev μ-loop : tie.MeasureT-loop
-μ-loop s at segs len i segment points flags₀ near span j₀ flags j = ?
+μ-loop s at segs len i segment points flags₀ near span j₀ flags j = span .high - j
 
--- src/lib.rt:151:9
 span-near-requires : tie.Need-span-near-requires Inv-loop μ-loop
-span-near-requires c κs = ?
+span-near-requires c κs = search needs
 
--- src/lib.rt:153:5
 loop-holds : tie.Need-loop-holds Inv-loop μ-loop
-loop-holds c = ?
+loop-holds c = search painting
 
--- src/lib.rt:154:17
 mul-c : tie.Need-mul-c Inv-loop μ-loop
-mul-c c = ?
+mul-c c = search needs
 
--- src/lib.rt:154:17
 shared-slice-read-c : tie.Need-shared-slice-read-c Inv-loop μ-loop
-shared-slice-read-c c = ?
+shared-slice-read-c c = search needs
 
--- src/lib.rt:155:28
 segment-maps-requires : tie.Need-segment-maps-requires Inv-loop μ-loop
-segment-maps-requires c κs = ?
+segment-maps-requires c κs = (search needs, (search needs, (search needs, search inside)))
 
--- src/lib.rt:155:20
 flag-of-requires : tie.Need-flag-of-requires Inv-loop μ-loop
-flag-of-requires c κs = ?
+flag-of-requires c κs = search needs
 
--- src/lib.rt:155:9
 slice-write-flags : tie.Need-slice-write-flags Inv-loop μ-loop
-slice-write-flags c = ?
+slice-write-flags c = search needs
 
--- src/lib.rt:156:9
 add-j : tie.Need-add-j Inv-loop μ-loop
-add-j c = ?
+add-j c = search needs
 
--- src/lib.rt:153:5
 loop-less : tie.Need-loop-less Inv-loop μ-loop
-loop-less c = ?
+loop-less c = search needs
 
--- src/lib.rt:153:5
 loop-again : tie.Need-loop-again Inv-loop μ-loop
-loop-again c = ?
+loop-again c = search painting
 
--- src/lib.rt:133:1
 same-length : tie.Need-same-length Inv-loop μ-loop
-same-length c = ?
+same-length c = search needs
 
--- src/lib.rt:133:1
 returns : tie.Need-returns Inv-loop μ-loop
-returns c = ?
+returns c = (search needs, search painting)
 
 pub mark-segment-spec : {M : Type 1} → statement M
 mark-segment-spec =
