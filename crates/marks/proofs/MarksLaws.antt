@@ -16,7 +16,7 @@ use Rattle.laws.proofs.ChoiceLaws.{by-leb}
 use Rattle.laws.proofs.RisingLaws.{rising-tail}
 use Rattle.laws.proofs.FrontLaws.{sets-front, sets-over}
 use Rattle.laws.proofs.SetsLaws.{getD-sets-in}
-use Rattle.marks.specs.Marks.{between, below, flagOf, flagged, painted, kept, Bound, Flags, Cleared}
+use Rattle.marks.specs.Marks.{between, below, flagOf, flagged, painted, kept, Bound, Flags, Cleared, Places}
 use Rattle.marks.proofs.BelowLaws.{below-tail}
 
 -- ---- painted, store by store
@@ -254,11 +254,11 @@ pub record Copying (fs vs out₀ out : List ℕ) (i k : ℕ) : Type 0 where
   pub few : k ≤ i
   pub same : length out ≡ length out₀
 
-module _ (fs vs out₀ out : List ℕ) (i k : ℕ) where
-  pub copying-start : Copying fs vs out₀ out₀ 0 0
-  copying-start = record { within = omega arith; left = refl; count = zero-add _; few = omega arith; same = refl }
+copying-start : (fs vs out₀ : List ℕ) → Copying fs vs out₀ out₀ 0 0
+copying-start fs vs out₀ = record { within = omega arith; left = refl; count = zero-add _; few = omega arith; same = refl }
 
-  pub copying-yes : Copying fs vs out₀ out i k → i < length vs → length vs ≤ length fs → (getD fs i 0 ≡ 0 → ⊥) → Copying fs vs out₀ (set out k (getD vs i 0)) (i + 1) (k + 1)
+module _ (fs vs out₀ out : List ℕ) (i k : ℕ) where
+  copying-yes : Copying fs vs out₀ out i k → i < length vs → length vs ≤ length fs → (getD fs i 0 ≡ 0 → ⊥) → Copying fs vs out₀ (set out k (getD vs i 0)) (i + 1) (k + 1)
   unfolding kept
   copying-yes l h r e =
       let t = ne-eqb (getD fs i 0) 0 e in
@@ -271,7 +271,7 @@ module _ (fs vs out₀ out : List ℕ) (i k : ℕ) where
         same = length-set out k (getD vs i 0) ∙ l .same;
       }
 
-  pub copying-no : Copying fs vs out₀ out i k → i < length vs → length vs ≤ length fs → getD fs i 0 ≡ 0 → Copying fs vs out₀ out (i + 1) k
+  copying-no : Copying fs vs out₀ out i k → i < length vs → length vs ≤ length fs → getD fs i 0 ≡ 0 → Copying fs vs out₀ out (i + 1) k
   unfolding kept
   copying-no l h r e =
       let t = eq-eqb (getD fs i 0) 0 e in
@@ -284,10 +284,43 @@ module _ (fs vs out₀ out : List ℕ) (i k : ℕ) where
         same = l .same;
       }
 
-  pub copying-done : Copying fs vs out₀ out i k → length vs ≤ i → out ≡ sets out₀ 0 (kept fs vs)
+  copying-done : Copying fs vs out₀ out i k → length vs ≤ i → out ≡ sets out₀ 0 (kept fs vs)
   copying-done l h = rw (drop-of-length-le vs h, kept-end) at (l .left)
 
-  pub copying-count : Copying fs vs out₀ out i k → length vs ≤ i → k ≡ length (kept fs vs)
+  copying-count : Copying fs vs out₀ out i k → length vs ≤ i → k ≡ length (kept fs vs)
   copying-count l h = omega (arith, rw (drop-of-length-le vs h, kept-end) at (l .count))
 
-pub ruleset copying = (copying-start, copying-yes, copying-no, copying-done, copying-count)
+-- two columns, copied by the same flags
+pub record Pairing (fs cs gs tocs₀ togs₀ tocs togs : List ℕ) (i k : ℕ) : Type 0 where
+  pub codes : Copying fs cs tocs₀ tocs i k
+  pub glyphs : Copying fs gs togs₀ togs i k
+
+module _ (fs cs gs tocs₀ togs₀ tocs togs : List ℕ) (i k : ℕ) where
+  pub pairing-start : Pairing fs cs gs tocs₀ togs₀ tocs₀ togs₀ 0 0
+  pairing-start = record { codes = copying-start fs cs tocs₀; glyphs = copying-start fs gs togs₀ }
+
+  module _ (p : Places fs cs gs tocs₀ togs₀) (l : Pairing fs cs gs tocs₀ togs₀ tocs togs i k) where
+    pub pairing-yes : i < length cs → (getD fs i 0 ≡ 0 → ⊥) → Pairing fs cs gs tocs₀ togs₀ (set tocs k (getD cs i 0)) (set togs k (getD gs i 0)) (i + 1) (k + 1)
+    pairing-yes h e =
+        record {
+          codes = copying-yes fs cs tocs₀ tocs i k (l .codes) h (p .flags) e;
+          glyphs = copying-yes fs gs togs₀ togs i k (l .glyphs) (omega (arith, p .even)) (omega (arith, p .even, p .flags)) e;
+        }
+
+    pub pairing-no : i < length cs → getD fs i 0 ≡ 0 → Pairing fs cs gs tocs₀ togs₀ tocs togs (i + 1) k
+    pairing-no h e =
+        record {
+          codes = copying-no fs cs tocs₀ tocs i k (l .codes) h (p .flags) e;
+          glyphs = copying-no fs gs togs₀ togs i k (l .glyphs) (omega (arith, p .even)) (omega (arith, p .even, p .flags)) e;
+        }
+
+    pub pairing-count : length cs ≤ i → k ≡ length (kept fs cs)
+    pairing-count h = copying-count fs cs tocs₀ tocs i k (l .codes) h
+
+    pub pairing-codes : length cs ≤ i → tocs ≡ sets tocs₀ 0 (kept fs cs)
+    pairing-codes h = copying-done fs cs tocs₀ tocs i k (l .codes) h
+
+    pub pairing-glyphs : length cs ≤ i → togs ≡ sets togs₀ 0 (kept fs gs)
+    pairing-glyphs h = copying-done fs gs togs₀ togs i k (l .glyphs) (omega (arith, p .even))
+
+pub ruleset pairing = (pairing-start, pairing-yes, pairing-no, pairing-count, pairing-codes, pairing-glyphs)

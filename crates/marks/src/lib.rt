@@ -267,40 +267,29 @@ pub fn mark_points(flags: &mut [u8], points: &[u32], start: u32, end: u32)
     mark_points_near(flags, points, start, end, points.len());
 }
 
-// Copies the values whose flag is set to the front of out; how many.
-pub fn copy_marked(flags: &[u8], values: &[u32], out: &mut [u32]) -> usize
-    requires { ⌜ Places (now flags) (now values) (now out) ⌝ }
-    ensures { λ r. ⌜ r ≡ length (kept (now (flags .entry)) (now (values .entry))) ⌝ }
-    ensures { λ _. ⌜ now (out .exit) ≡ sets (now (out .entry)) 0 (kept (now (flags .entry)) (now (values .entry))) ⌝ }
+// Copies the pairs whose flag is set to the front of the columns lent for them; how many.
+pub fn copy_marked(
+    flags: &[u8],
+    codes: &[u32],
+    glyphs: &[u16],
+    tocodes: &mut [u32],
+    toglyphs: &mut [u16],
+) -> usize
+    requires { ⌜ Places (now flags) (now codes) (now glyphs) (now tocodes) (now toglyphs) ⌝ }
+    ensures { λ r. ⌜ r ≡ length (kept (now (flags .entry)) (now (codes .entry))) ⌝ }
+    ensures { λ _. ⌜ now (tocodes .exit) ≡ sets (now (tocodes .entry)) 0 (kept (now (flags .entry)) (now (codes .entry))) ⌝ }
+    ensures { λ _. ⌜ now (toglyphs .exit) ≡ sets (now (toglyphs .entry)) 0 (kept (now (flags .entry)) (now (glyphs .entry))) ⌝ }
 {
     let mut i = 0;
     let mut k = 0;
-    while i < values.len() {
+    while i < codes.len() {
         let flag = flags[i];
-        let value = values[i];
+        let code = codes[i];
+        let glyph = glyphs[i];
         i += 1;
         if flag != 0 {
-            out[k] = value;
-            k += 1;
-        }
-    }
-    k
-}
-
-// The same for glyphs.
-pub fn copy_marked_glyphs(flags: &[u8], values: &[u16], out: &mut [u16]) -> usize
-    requires { ⌜ Places (now flags) (now values) (now out) ⌝ }
-    ensures { λ r. ⌜ r ≡ length (kept (now (flags .entry)) (now (values .entry))) ⌝ }
-    ensures { λ _. ⌜ now (out .exit) ≡ sets (now (out .entry)) 0 (kept (now (flags .entry)) (now (values .entry))) ⌝ }
-{
-    let mut i = 0;
-    let mut k = 0;
-    while i < values.len() {
-        let flag = flags[i];
-        let value = values[i];
-        i += 1;
-        if flag != 0 {
-            out[k] = value;
+            tocodes[k] = code;
+            toglyphs[k] = glyph;
             k += 1;
         }
     }

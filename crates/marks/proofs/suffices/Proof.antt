@@ -1,6 +1,5 @@
 -- The first of the points behind i is the least of them.
 use native.Mathlib.Omega.{arith}
-use Prim.Native.Nat.{_-_}
 use Rattle.marks.proofs.BelowLaws.{counted}
 use borrow.Author.Needs.{needs}
 use Rattle.marks.proofs.suffices.Statement.{statement}
