@@ -7,14 +7,16 @@ use native.Mathlib.Numerals.{add-one}
 use native.Mathlib.Omega.{arith}
 use lib.Dec.{leb, ltb, eqb}
 use lib.ListN.{length, getD}
-use borrow.Author.Tests.{leb-false, ltb-false}
+use borrow.Author.Tests.{lt-ltb, le-leb, ltb-true, ltb-false, leb-true, leb-false}
 use Rattle.laws.specs.Choice.{either}
 use Rattle.laws.specs.Search.{some}
 use Rattle.laws.specs.Lists.{Rising}
 use Rattle.laws.specs.Select.{anyOf}
 use Rattle.marks.specs.Marks.{holds, Bound}
-use Rattle.marks.proofs.BelowLaws.{member-here, member-nowhere}
-use Rattle.laws.proofs.SomeLaws.{some-false}
+use Rattle.marks.proofs.BelowLaws.{below-past, below-upto, member-here, member-nowhere}
+use Rattle.laws.proofs.SomeLaws.{some-false, some-none}
+use Rattle.laws.proofs.ChoiceLaws.{false-true, not-true, by-test, by-leb}
+use Rattle.laws.proofs.RisingLaws.{rising-lt, rising-le}
 use Rattle.laws.proofs.AnyLaws.{anyOf-some}
 use Rattle.checks.specs.Checks.{falls, exceeds, notBelowNext, lacks, reachesCount}
 
@@ -50,13 +52,6 @@ pub exceeds-told : (m : ℕ) (xs : List ℕ) (r : Bool) → r ≡ some (isAbove 
 unfolding exceeds
 exceeds-told m xs r e = e ∙ sym (anyOf-some (ltb m) 0 xs)
 
-abbrev pub isAtLeast : ℕ → List ℕ → ℕ → Bool
-isAtLeast n xs i = leb n (getD xs i 0)
-
-pub reaches-told : (n : ℕ) (xs : List ℕ) (r : Bool) → r ≡ some (isAtLeast n xs) (length xs) 0 → r ≡ reachesCount n xs
-unfolding reachesCount
-reaches-told n xs r e = e ∙ sym (anyOf-some (leb n) 0 xs)
-
 abbrev pub isMissing : List ℕ → List ℕ → ℕ → Bool
 isMissing kept codes i = not (holds kept (getD codes i 0))
 
@@ -64,9 +59,60 @@ pub lacks-told : (kept codes : List ℕ) (r : Bool) → r ≡ some (isMissing ke
 unfolding lacks
 lacks-told kept codes r e = e ∙ sym (anyOf-some (λ c. not (holds kept c)) 0 codes)
 
+-- ---- of a rising list the last alone is asked
+
+module _ (p : ℕ → Bool) (xs : List ℕ) (up : (a b : ℕ) → a ≤ b → p a ≡ true → p b ≡ true) where
+  abbrev last : ℕ
+  last = getD xs (length xs - 1) 0
+
+  none-passes : Rising xs → p last ≡ false → some (λ i. p (getD xs i 0)) (length xs) 0 ≡ false
+  none-passes r e =
+      some-none (λ i. p (getD xs i 0)) (length xs)
+      (λ i h. not-true (p (getD xs i 0)) (λ d. false-true (sym e ∙ up (getD xs i 0) last (rising-le r i (length xs - 1) (omega arith) (omega arith)) d)))
+
+  last-tells : Rising xs → 0 < length xs → p last ≡ anyOf p xs
+  last-tells r h =
+      rw (anyOf-some p 0 xs)
+      (by-test (p last ≡ some (λ i. p (getD xs i 0)) (length xs) 0) (p last)
+      (λ e. by-test (p last ≡ some (λ i. p (getD xs i 0)) (length xs) 0) (some (λ i. p (getD xs i 0)) (length xs) 0)
+      (λ d. e ∙ sym d)
+      (λ d. absurd (false-true (sym (some-false (λ i. p (getD xs i 0)) (length xs) 0 d (length xs - 1) (omega arith) (omega arith)) ∙ e))))
+      (λ e. e ∙ sym (none-passes r e)))
+
+none-told : (p : ℕ → Bool) (xs : List ℕ) → length xs ≤ 0 → false ≡ anyOf p xs
+none-told p xs h = rw (anyOf-some p 0 xs) (sym (some-none (λ i. p (getD xs i 0)) (length xs) (λ i l. absurd (omega arith))))
+
+module _ (m : ℕ) (xs : List ℕ) where
+  pub last-exceeds : (r : Bool) → Rising xs → 0 < length xs → r ≡ ltb m (getD xs (length xs - 1) 0) → r ≡ exceeds m xs
+  unfolding exceeds
+  last-exceeds r k h e = e ∙ last-tells (ltb m) xs (λ a b l d. lt-ltb m b (omega (arith, ltb-true m a d))) k h
+
+  pub none-exceeds : length xs ≤ 0 → false ≡ exceeds m xs
+  unfolding exceeds
+  none-exceeds h = none-told (ltb m) xs h
+
+  pub last-reaches : (r : Bool) → Rising xs → 0 < length xs → r ≡ leb m (getD xs (length xs - 1) 0) → r ≡ reachesCount m xs
+  unfolding reachesCount
+  last-reaches r k h e = e ∙ last-tells (leb m) xs (λ a b l d. le-leb m b (omega (arith, leb-true m a d))) k h
+
+  pub none-reaches : length xs ≤ 0 → false ≡ reachesCount m xs
+  unfolding reachesCount
+  none-reaches h = none-told (leb m) xs h
+
+pub ruleset by-last = (last-exceeds, none-exceeds, last-reaches, none-reaches)
+
 -- ---- c stands behind the kept points below it, or nowhere
 
 module _ (kept : List ℕ) (c i : ℕ) where
+  pub kept-here : Rising kept → i < length kept → getD kept i 0 ≡ c → Bound kept c i
+  kept-here r h e =
+      let most = below-upto kept c i r h (omega arith) in
+      by-leb (Bound kept c i) i 0
+      (λ (z : i ≤ 0). record { is = omega arith; within = omega arith })
+      (λ (z : 0 < i).
+      let least = below-past kept c (i - 1) r (omega arith) (omega (arith, rising-lt r (i - 1) i (omega arith) h)) in
+      record { is = omega arith; within = omega arith })
+
   pub missing-here : Rising kept → Bound kept c i → i < length kept → not (eqb (getD kept i 0) c) ≡ not (holds kept c)
   missing-here r b h = ap not (member-here kept c i r b h)
 

@@ -70,16 +70,13 @@ fn falls(xs: &[u32]) -> bool
     false
 }
 
-// Some number is above m.
-fn exceeds(m: u32, xs: &[u32]) -> bool
+// Some number of a rising list is above m: its last is the greatest.
+fn last_above(m: u32, xs: &[u32]) -> bool
+    requires { ⌜ Rising (now xs) ⌝ }
     ensures { λ r. ⌜ r ≡ exceeds m (now (xs .entry)) ⌝ }
 {
-    let mut i = 0;
-    while i < xs.len() {
-        if above(m, xs[i]) {
-            return true;
-        }
-        i += 1;
+    if 0 < xs.len() {
+        return above(m, xs[xs.len() - 1]);
     }
     false
 }
@@ -134,24 +131,27 @@ fn not_below_count(n: usize, a: u16) -> bool
     n <= a as usize
 }
 
-// Some number is n or more.
-fn reaches_count(n: usize, xs: &[u16]) -> bool
+// Some number of a rising list is n or more.
+fn last_reaches(n: usize, xs: &[u16]) -> bool
+    requires { ⌜ Rising (now xs) ⌝ }
     ensures { λ r. ⌜ r ≡ reachesCount n (now (xs .entry)) ⌝ }
 {
-    let mut i = 0;
-    while i < xs.len() {
-        if not_below_count(n, xs[i]) {
-            return true;
-        }
-        i += 1;
+    if 0 < xs.len() {
+        return not_below_count(n, xs[xs.len() - 1]);
     }
     false
 }
 
+// How many kept points are below c, with no search where c stands at `near`.
 fn kept_below(kept: &[u32], c: u32, near: usize) -> usize
     requires { ⌜ Rising (now kept) ⌝ }
     ensures { λ r. ⌜ Bound (now (kept .entry)) c r ⌝ }
 {
+    if near < kept.len() {
+        if kept[near] == c {
+            return near;
+        }
+    }
     marks::count_near(kept, c as u64, near)
 }
 
@@ -167,7 +167,7 @@ fn is_missing(kept: &[u32], c: u32, i: usize) -> bool
     true
 }
 
-// Some listed code point is not kept. Where the code points rise, each is found near the one before.
+// Some listed code point is not kept. Where the code points rise, each is looked for behind the one before.
 fn lacks(kept: &[u32], codes: &[u32]) -> bool
     requires { ⌜ Rising (now kept) ⌝ }
     ensures { λ r. ⌜ r ≡ lacks (now (kept .entry)) (now (codes .entry)) ⌝ }
@@ -175,10 +175,11 @@ fn lacks(kept: &[u32], codes: &[u32]) -> bool
     let mut near = 0;
     let mut i = 0;
     while i < codes.len() {
-        near = kept_below(kept, codes[i], near);
-        if is_missing(kept, codes[i], near) {
+        let place = kept_below(kept, codes[i], near);
+        if is_missing(kept, codes[i], place) {
             return true;
         }
+        near = place + 1;
         i += 1;
     }
     false
@@ -190,7 +191,7 @@ pub fn bad_pairs(codes: &[u32], glyphs: &[u16]) -> bool
     if falls(codes) {
         return true;
     }
-    if exceeds(CodePoint::UNICODE_MAX, codes) {
+    if last_above(CodePoint::UNICODE_MAX, codes) {
         return true;
     }
     exceeds16(NewGlyph::MAX, glyphs)
@@ -202,7 +203,7 @@ pub fn bad_kept(kept: &[u32], codes: &[u32]) -> bool
     if falls(kept) {
         return true;
     }
-    if exceeds(CodePoint::UNICODE_MAX, kept) {
+    if last_above(CodePoint::UNICODE_MAX, kept) {
         return true;
     }
     lacks(kept, codes)
@@ -214,5 +215,5 @@ pub fn bad_requested(n: usize, requested: &[u16]) -> bool
     if falls16(requested) {
         return true;
     }
-    reaches_count(n, requested)
+    last_reaches(n, requested)
 }

@@ -62,8 +62,7 @@ fn list_pairs(
     ensures { λ _. ⌜ now (toglyphs .exit) ≡ sets (now (toglyphs .entry)) 0 (keep (mapsAs kind (now (s .entry)) at n) (now (codes .entry)) (now (glyphs .entry))) ⌝ }
 {
     collect_unicodes(s, at, kind, n, codes, flags);
-    marks::copy_marked_glyphs(flags, glyphs, toglyphs);
-    marks::copy_marked(flags, codes, tocodes)
+    marks::copy_marked(flags, codes, glyphs, tocodes, toglyphs)
 }
 
 // The same for the subtable that record k leads to.

@@ -148,15 +148,14 @@ fn mark_segment(
     ensures { λ r. ⌜ Bound (now (points .entry)) (segment .end + 1) r ⌝ }
     ensures { λ _. ⌜ now (flags .exit) ≡ painted (holds4 segment) (says4 (now (s .entry)) at segs len i segment) (now (points .entry)) (now (flags .entry)) ⌝ }
 {
-    let low = marks::count_near(points, segment.start as u64, near);
-    let high = marks::count_near(points, segment.end as u64 + 1, low);
-    let mut j = low;
-    while j < high {
+    let span = marks::span_near(points, segment.start, segment.end, near);
+    let mut j = span.low;
+    while j < span.high {
         let c = points[j];
         flags[j] = flag_of(segment_maps(s, at, segs, len, i, segment, c));
         j += 1;
     }
-    high
+    span.high
 }
 
 // The walk over the segments, from flags that are clear.

@@ -1,13 +1,13 @@
 -- How many numbers of a rising list lie below a bound: what one look tells, a search by halving, and membership.
 use Prim.Native.Nat.{ℕ, zero, suc, _+_, _-_, _/_, _<_, _≤_}
-use mathlib.Core.Path.{_≡_, refl, sym}
+use mathlib.Core.Path.{_≡_, refl, sym, _∙_}
 use mathlib.Core.List.{List, [], _∷_}
-use mathlib.Core.Bool.{false}
+use mathlib.Core.Bool.{Bool, true, false}
 use native.Mathlib.Nat.{not-suc-le-zero}
 use native.Mathlib.Omega.{arith}
-use lib.Dec.{ltb, eqb}
+use lib.Dec.{ltb, leb, eqb}
 use lib.ListN.{length, getD}
-use borrow.Author.Tests.{lt-ltb, le-ltb, ne-eqb}
+use borrow.Author.Tests.{lt-ltb, le-ltb, le-leb, lt-leb, eq-eqb, ne-eqb, leb-true, leb-false, eqb-true}
 use Rattle.laws.specs.Lists.{Rising}
 use Rattle.laws.proofs.ChoiceLaws.{by-pick, by-leb}
 use Rattle.laws.proofs.EitherLaws.{either-none}
@@ -104,6 +104,49 @@ module _ (ps : List ℕ) (c low step : ℕ) where
   ahead-here a r p h e =
       let m = below-upto ps c (low + step - 1) r (omega (arith, a .within)) e in
       record { least = a .least; most = m; within = omega (arith, a .within) }
+
+-- ---- one or two looks that tell whether i numbers are below c
+
+module _ (ps : List ℕ) (c i : ℕ) where
+  pub reaches-last : Rising ps → 0 < i → i ≤ length ps → ltb (getD ps (i - 1) 0) c ≡ leb i (below ps c)
+  reaches-last r p h =
+      by-leb (ltb (getD ps (i - 1) 0) c ≡ leb i (below ps c)) c (getD ps (i - 1) 0)
+      (λ l. le-ltb (getD ps (i - 1) 0) c l ∙ sym (lt-leb i (below ps c) (omega (arith, below-upto ps c (i - 1) r (omega arith) l))))
+      (λ l. lt-ltb (getD ps (i - 1) 0) c l ∙ sym (le-leb i (below ps c) (omega (arith, below-past ps c (i - 1) r (omega arith) l))))
+
+  pub reaches-none : i ≤ 0 → true ≡ leb i (below ps c)
+  reaches-none h = sym (le-leb i (below ps c) (omega arith))
+
+  pub suffices-next : Rising ps → i < length ps → leb c (getD ps i 0) ≡ leb (below ps c) i
+  suffices-next r h =
+      by-leb (leb c (getD ps i 0) ≡ leb (below ps c) i) c (getD ps i 0)
+      (λ l. le-leb c (getD ps i 0) l ∙ sym (le-leb (below ps c) i (below-upto ps c i r h l)))
+      (λ l. lt-leb c (getD ps i 0) l ∙ sym (lt-leb (below ps c) i (below-past ps c i r h l)))
+
+  pub suffices-end : length ps ≤ i → true ≡ leb (below ps c) i
+  suffices-end h = sym (le-leb (below ps c) i (omega (arith, below-within ps c)))
+
+  pub count-over : length ps < i → false ≡ eqb i (below ps c)
+  count-over h = sym (ne-eqb i (below ps c) (λ e. omega (arith, below-within ps c)))
+
+  pub count-short : (a : Bool) → a ≡ leb i (below ps c) → a ≡ false → false ≡ eqb i (below ps c)
+  count-short a q e =
+      let l = leb-false i (below ps c) (sym q ∙ e) in
+      sym (ne-eqb i (below ps c) (λ d. omega arith))
+
+  pub count-told : (a b : Bool) → a ≡ leb i (below ps c) → a ≡ true → b ≡ leb (below ps c) i → b ≡ eqb i (below ps c)
+  count-told a b q e d =
+      let l = leb-true i (below ps c) (sym q ∙ e) in
+      by-leb (b ≡ eqb i (below ps c)) (below ps c) i
+      (λ m. d ∙ le-leb (below ps c) i m ∙ sym (eq-eqb i (below ps c) (omega arith)))
+      (λ m. d ∙ lt-leb (below ps c) i m ∙ sym (ne-eqb i (below ps c) (λ k. omega arith)))
+
+  pub count-is : (b : Bool) → b ≡ eqb i (below ps c) → b ≡ true → Bound ps c i
+  count-is b q e =
+      let l = eqb-true i (below ps c) (sym q ∙ e) in
+      record { is = l; within = omega (arith, below-within ps c) }
+
+pub ruleset counted = (reaches-last, reaches-none, suffices-next, suffices-end, count-over, count-short, count-told, count-is)
 
 -- ---- holds
 

@@ -16,7 +16,7 @@ use Rattle.laws.proofs.ChoiceLaws.{by-leb}
 use Rattle.laws.proofs.RisingLaws.{rising-tail}
 use Rattle.laws.proofs.FrontLaws.{sets-front, sets-over}
 use Rattle.laws.proofs.SetsLaws.{getD-sets-in}
-use Rattle.marks.specs.Marks.{between, below, flagOf, flagged, painted, kept, Bound, Flags, Cleared}
+use Rattle.marks.specs.Marks.{between, below, flagOf, flagged, painted, kept, Bound, Flags, Cleared, Places}
 use Rattle.marks.proofs.BelowLaws.{below-tail}
 
 -- ---- painted, store by store
@@ -162,26 +162,58 @@ pub cleared-flagged : (p : ℕ → Bool) (ps fs₀ fs fs′ : List ℕ) → fs �
 cleared-flagged p ps fs₀ fs fs′ e d =
     d ∙ rw e (sets-over fs₀ 0 (replicate (length ps) 0) (flagged p ps) (rw (length-flagged p ps) (length-replicate {A = ℕ} (length ps) 0)))
 
-pub record Clearing (fs₀ fs : List ℕ) (n i : ℕ) : Type 0 where
-  pub within : i ≤ n
-  pub left : sets fs i (replicate (n - i) 0) ≡ sets fs₀ 0 (replicate n 0)
+-- the flags from low up to i are v: what is left up to high, from here, gives the whole
+pub record Filling (v : ℕ) (fs₀ fs : List ℕ) (low high i : ℕ) : Type 0 where
+  pub from : low ≤ i
+  pub left : sets fs i (replicate (high - i) v) ≡ sets fs₀ low (replicate (high - low) v)
   pub same : length fs ≡ length fs₀
 
-pub clearing-start : (fs₀ : List ℕ) (n : ℕ) → Clearing fs₀ fs₀ n 0
-clearing-start fs₀ n = record { within = omega arith; left = rw (sub-zero n); same = refl }
+pub filling-start : (v : ℕ) (fs₀ : List ℕ) (low high : ℕ) → Filling v fs₀ fs₀ low high low
+filling-start v fs₀ low high = record { from = omega arith; left = refl; same = refl }
 
-module _ {fs₀ fs : List ℕ} {n i : ℕ} (l : Clearing fs₀ fs n i) where
-  pub clearing-on : i < n → Clearing fs₀ (set fs i 0) n (i + 1)
-  clearing-on h =
-      let m : n - i ≡ suc (n - (i + 1)) = omega arith in
-      record { within = omega arith; left = rw (add-one i) (rw (m, add-one i) at (l .left)); same = length-set fs i 0 ∙ l .same }
+module _ {v : ℕ} {fs₀ fs : List ℕ} {low high i : ℕ} (l : Filling v fs₀ fs low high i) where
+  pub filling-on : i < high → Filling v fs₀ (set fs i v) low high (i + 1)
+  filling-on h =
+      let m : high - i ≡ suc (high - (i + 1)) = omega arith in
+      record { from = omega (arith, l .from); left = rw (add-one i) (rw (m, add-one i) at (l .left)); same = length-set fs i v ∙ l .same }
 
-  pub clearing-done : n ≤ i → fs ≡ sets fs₀ 0 (replicate n 0)
-  clearing-done h =
-      let m : n - i ≡ 0 = omega arith in
+  pub filling-done : high ≤ i → fs ≡ sets fs₀ low (replicate (high - low) v)
+  filling-done h =
+      let m : high - i ≡ 0 = omega arith in
       rw m at (l .left)
 
-pub ruleset clearing = (clearing-start, clearing-on, clearing-done)
+-- from the front
+pub filling-front : {v : ℕ} {fs₀ fs : List ℕ} {n i : ℕ} → Filling v fs₀ fs 0 n i → n ≤ i → fs ≡ sets fs₀ 0 (replicate n v)
+filling-front {n = n} l h = rw (sub-zero n) at (filling-done l h)
+
+pub ruleset filling = (filling-start, filling-on, filling-done, filling-front)
+
+-- the first of the flags by itself
+module _ (v : ℕ) (fs : List ℕ) (low high : ℕ) where
+  pub filled-none : high ≤ low → fs ≡ sets fs low (replicate (high - low) v)
+  filled-none h = filling-done (filling-start v fs low high) h
+
+  pub filled-one : low < high → high ≤ low + 1 → set fs low v ≡ sets fs low (replicate (high - low) v)
+  filled-one h l = filling-done (filling-on (filling-start v fs low high) h) l
+
+  pub filled-more : (fs′ : List ℕ) → low < high → fs′ ≡ sets (set fs low v) (low + 1) (replicate (high - (low + 1)) v) → fs′ ≡ sets fs low (replicate (high - low) v)
+  filled-more fs′ h e = e ∙ filling-on (filling-start v fs low high) h .left
+
+  pub filled-length : (fs′ : List ℕ) → low < high → fs′ ≡ sets (set fs low v) (low + 1) (replicate (high - (low + 1)) v) → length fs′ ≡ length fs
+  filled-length fs′ h e = rw (filled-more fs′ h e) (length-sets fs low (replicate (high - low) v))
+
+pub ruleset filled = (filled-none, filled-one, filled-more, filled-length)
+
+-- stores of what is always said are a filling
+stores-ones : (ps : List ℕ) (k i : ℕ) (fs : List ℕ) → stores (λ c. true) ps k i fs ≡ sets fs i (replicate k 1)
+unfolding stores
+stores-ones ps zero i fs = refl
+stores-ones ps (suc k) i fs = stores-ones ps k (suc i) (set fs i 1)
+
+pub marked-filled : (a e low high : ℕ) (ps fs fs′ : List ℕ) → Bound ps a low → Bound ps (e + 1) high → Flags ps fs
+    → fs′ ≡ sets fs low (replicate (high - low) 1) → fs′ ≡ painted (between a e) (λ c. true) ps fs
+marked-filled a e low high ps fs fs′ b d k h =
+    h ∙ sym (stores-ones ps (high - low) low fs) ∙ rw (b .is, d .is) (painted-stores (λ c. true) a e ps fs (k .rising) (k .beside))
 
 -- ---- what is copied
 
@@ -222,11 +254,11 @@ pub record Copying (fs vs out₀ out : List ℕ) (i k : ℕ) : Type 0 where
   pub few : k ≤ i
   pub same : length out ≡ length out₀
 
-module _ (fs vs out₀ out : List ℕ) (i k : ℕ) where
-  pub copying-start : Copying fs vs out₀ out₀ 0 0
-  copying-start = record { within = omega arith; left = refl; count = zero-add _; few = omega arith; same = refl }
+copying-start : (fs vs out₀ : List ℕ) → Copying fs vs out₀ out₀ 0 0
+copying-start fs vs out₀ = record { within = omega arith; left = refl; count = zero-add _; few = omega arith; same = refl }
 
-  pub copying-yes : Copying fs vs out₀ out i k → i < length vs → length vs ≤ length fs → (getD fs i 0 ≡ 0 → ⊥) → Copying fs vs out₀ (set out k (getD vs i 0)) (i + 1) (k + 1)
+module _ (fs vs out₀ out : List ℕ) (i k : ℕ) where
+  copying-yes : Copying fs vs out₀ out i k → i < length vs → length vs ≤ length fs → (getD fs i 0 ≡ 0 → ⊥) → Copying fs vs out₀ (set out k (getD vs i 0)) (i + 1) (k + 1)
   unfolding kept
   copying-yes l h r e =
       let t = ne-eqb (getD fs i 0) 0 e in
@@ -239,7 +271,7 @@ module _ (fs vs out₀ out : List ℕ) (i k : ℕ) where
         same = length-set out k (getD vs i 0) ∙ l .same;
       }
 
-  pub copying-no : Copying fs vs out₀ out i k → i < length vs → length vs ≤ length fs → getD fs i 0 ≡ 0 → Copying fs vs out₀ out (i + 1) k
+  copying-no : Copying fs vs out₀ out i k → i < length vs → length vs ≤ length fs → getD fs i 0 ≡ 0 → Copying fs vs out₀ out (i + 1) k
   unfolding kept
   copying-no l h r e =
       let t = eq-eqb (getD fs i 0) 0 e in
@@ -252,10 +284,43 @@ module _ (fs vs out₀ out : List ℕ) (i k : ℕ) where
         same = l .same;
       }
 
-  pub copying-done : Copying fs vs out₀ out i k → length vs ≤ i → out ≡ sets out₀ 0 (kept fs vs)
+  copying-done : Copying fs vs out₀ out i k → length vs ≤ i → out ≡ sets out₀ 0 (kept fs vs)
   copying-done l h = rw (drop-of-length-le vs h, kept-end) at (l .left)
 
-  pub copying-count : Copying fs vs out₀ out i k → length vs ≤ i → k ≡ length (kept fs vs)
+  copying-count : Copying fs vs out₀ out i k → length vs ≤ i → k ≡ length (kept fs vs)
   copying-count l h = omega (arith, rw (drop-of-length-le vs h, kept-end) at (l .count))
 
-pub ruleset copying = (copying-start, copying-yes, copying-no, copying-done, copying-count)
+-- two columns, copied by the same flags
+pub record Pairing (fs cs gs tocs₀ togs₀ tocs togs : List ℕ) (i k : ℕ) : Type 0 where
+  pub codes : Copying fs cs tocs₀ tocs i k
+  pub glyphs : Copying fs gs togs₀ togs i k
+
+module _ (fs cs gs tocs₀ togs₀ tocs togs : List ℕ) (i k : ℕ) where
+  pub pairing-start : Pairing fs cs gs tocs₀ togs₀ tocs₀ togs₀ 0 0
+  pairing-start = record { codes = copying-start fs cs tocs₀; glyphs = copying-start fs gs togs₀ }
+
+  module _ (p : Places fs cs gs tocs₀ togs₀) (l : Pairing fs cs gs tocs₀ togs₀ tocs togs i k) where
+    pub pairing-yes : i < length cs → (getD fs i 0 ≡ 0 → ⊥) → Pairing fs cs gs tocs₀ togs₀ (set tocs k (getD cs i 0)) (set togs k (getD gs i 0)) (i + 1) (k + 1)
+    pairing-yes h e =
+        record {
+          codes = copying-yes fs cs tocs₀ tocs i k (l .codes) h (p .flags) e;
+          glyphs = copying-yes fs gs togs₀ togs i k (l .glyphs) (omega (arith, p .even)) (omega (arith, p .even, p .flags)) e;
+        }
+
+    pub pairing-no : i < length cs → getD fs i 0 ≡ 0 → Pairing fs cs gs tocs₀ togs₀ tocs togs (i + 1) k
+    pairing-no h e =
+        record {
+          codes = copying-no fs cs tocs₀ tocs i k (l .codes) h (p .flags) e;
+          glyphs = copying-no fs gs togs₀ togs i k (l .glyphs) (omega (arith, p .even)) (omega (arith, p .even, p .flags)) e;
+        }
+
+    pub pairing-count : length cs ≤ i → k ≡ length (kept fs cs)
+    pairing-count h = copying-count fs cs tocs₀ tocs i k (l .codes) h
+
+    pub pairing-codes : length cs ≤ i → tocs ≡ sets tocs₀ 0 (kept fs cs)
+    pairing-codes h = copying-done fs cs tocs₀ tocs i k (l .codes) h
+
+    pub pairing-glyphs : length cs ≤ i → togs ≡ sets togs₀ 0 (kept fs gs)
+    pairing-glyphs h = copying-done fs gs togs₀ togs i k (l .glyphs) (omega (arith, p .even))
+
+pub ruleset pairing = (pairing-start, pairing-yes, pairing-no, pairing-count, pairing-codes, pairing-glyphs)

@@ -77,7 +77,9 @@ pub record Flags (ps fs : List ℕ) : Type 0 where
 pub record Cleared (n : ℕ) (fs : List ℕ) : Type 0 where
   pub is : fs ≡ sets fs 0 (replicate n 0)
 
--- a flag and a place to copy to for each value
-pub record Places (fs vs out : List ℕ) : Type 0 where
-  pub flags : length vs ≤ length fs
-  pub room : length vs ≤ length out
+-- a flag for each pair of two columns, and a place to copy each of its numbers to
+pub record Places (fs cs gs tocs togs : List ℕ) : Type 0 where
+  pub even : length cs ≡ length gs
+  pub flags : length cs ≤ length fs
+  pub code-room : length cs ≤ length tocs
+  pub glyph-room : length cs ≤ length togs

@@ -1,10 +1,11 @@
 // Flags beside a rising list of points: found by halving, set for a stretch of points, and copied by.
 ghost use mathlib.Core.Path.{_≡_};
-ghost use Prim.Native.Nat.{_+_, _≤_};
+ghost use Prim.Native.Nat.{_+_, _-_, _≤_};
+ghost use lib.Dec.{leb, eqb};
 ghost use lib.ListN.{length, replicate};
 ghost use lib.Seq.{sets};
 ghost use Rattle.laws.specs.Lists.{Rising};
-ghost use Rattle.marks.specs.Marks.{between, holds, marked, kept, Bound, Halving, AtLeast, Flags, Places};
+ghost use Rattle.marks.specs.Marks.{between, below, holds, marked, kept, Bound, Halving, AtLeast, Flags, Places};
 
 // The bound may be one past the greatest u32.
 fn halve(points: &[u32], c: u64, from: usize, upto: usize) -> usize
@@ -65,6 +66,91 @@ pub fn count_near(points: &[u32], c: u64, near: usize) -> usize
         return count_from(points, c, near);
     }
     count_below(points, c)
+}
+
+// Whether the first i points are below c.
+fn reaches(points: &[u32], c: u64, i: usize) -> bool
+    requires { ⌜ Rising (now points) ⌝ }
+    requires { ⌜ i ≤ length (now points) ⌝ }
+    ensures { λ r. ⌜ r ≡ leb i (below (now (points .entry)) c) ⌝ }
+{
+    if 0 < i {
+        return (points[i - 1] as u64) < c;
+    }
+    true
+}
+
+// Whether none but the first i points are below c.
+fn suffices(points: &[u32], c: u64, i: usize) -> bool
+    requires { ⌜ Rising (now points) ⌝ }
+    requires { ⌜ i ≤ length (now points) ⌝ }
+    ensures { λ r. ⌜ r ≡ leb (below (now (points .entry)) c) i ⌝ }
+{
+    if i < points.len() {
+        return c <= points[i] as u64;
+    }
+    true
+}
+
+// Whether i points are below c: two looks, no search.
+fn is_count(points: &[u32], c: u64, i: usize) -> bool
+    requires { ⌜ Rising (now points) ⌝ }
+    ensures { λ r. ⌜ r ≡ eqb i (below (now (points .entry)) c) ⌝ }
+{
+    if points.len() < i {
+        return false;
+    }
+    if reaches(points, c, i) {
+        return suffices(points, c, i);
+    }
+    false
+}
+
+// How many points are below c, with no search where `near` is that count.
+fn count_at(points: &[u32], c: u64, near: usize) -> usize
+    requires { ⌜ Rising (now points) ⌝ }
+    ensures { λ r. ⌜ Bound (now (points .entry)) c r ⌝ }
+{
+    if is_count(points, c, near) {
+        return near;
+    }
+    count_near(points, c, near)
+}
+
+// How many points are at most end, where low are below start, with no search where none or all of start..end are listed.
+fn count_upto(points: &[u32], start: u32, end: u32, low: usize) -> usize
+    requires { ⌜ Rising (now points) ⌝ }
+    requires { ⌜ Bound (now points) start low ⌝ }
+    ensures { λ r. ⌜ Bound (now (points .entry)) (end + 1) r ⌝ }
+{
+    let past = end as u64 + 1;
+    if is_count(points, past, low) {
+        return low;
+    }
+    if start <= end {
+        let all = low + 1 + (end - start) as usize;
+        if is_count(points, past, all) {
+            return all;
+        }
+    }
+    count_near(points, past, low)
+}
+
+// The places of the points of a stretch: from low on, up to high.
+pub struct Span {
+    pub low: usize,
+    pub high: usize,
+}
+
+// The points from start to end, both included: low are below start, high at most end.
+pub fn span_near(points: &[u32], start: u32, end: u32, near: usize) -> Span
+    requires { ⌜ Rising (now points) ⌝ }
+    ensures { λ r. ⌜ Bound (now (points .entry)) start (r .low) ⌝ }
+    ensures { λ r. ⌜ Bound (now (points .entry)) (end + 1) (r .high) ⌝ }
+{
+    let low = count_at(points, start as u64, near);
+    let high = count_upto(points, start, end, low);
+    Span { low, high }
 }
 
 // How many points are below c.
@@ -129,6 +215,32 @@ pub fn clear(flags: &mut [u8], n: usize)
     }
 }
 
+// Sets the flags from low on, up to high, to 1.
+fn set_all(flags: &mut [u8], low: usize, high: usize)
+    requires { ⌜ high ≤ length (now flags) ⌝ }
+    ensures { λ _. ⌜ now (flags .exit) ≡ sets (now (flags .entry)) low (replicate (high - low) 1) ⌝ }
+{
+    let mut i = low;
+    while i < high {
+        flags[i] = 1;
+        i += 1;
+    }
+}
+
+// The same, with no loop for one flag: most stretches of a walk hold one of the points, or none.
+fn set_flags(flags: &mut [u8], low: usize, high: usize)
+    requires { ⌜ high ≤ length (now flags) ⌝ }
+    ensures { λ _. ⌜ now (flags .exit) ≡ sets (now (flags .entry)) low (replicate (high - low) 1) ⌝ }
+{
+    if high <= low {
+        return;
+    }
+    flags[low] = 1;
+    if low + 1 < high {
+        set_all(flags, low + 1, high);
+    }
+}
+
 // Sets the flags of the points from start to end, both included, to 1; how many points are at most end. A walk over stretches
 // in order hands that number on as `near`.
 pub fn mark_points_near(
@@ -142,14 +254,9 @@ pub fn mark_points_near(
     ensures { λ r. ⌜ Bound (now (points .entry)) (end + 1) r ⌝ }
     ensures { λ _. ⌜ now (flags .exit) ≡ marked (between start end) (now (points .entry)) (now (flags .entry)) ⌝ }
 {
-    let low = count_near(points, start as u64, near);
-    let high = count_near(points, end as u64 + 1, low);
-    let mut i = low;
-    while i < high {
-        flags[i] = 1;
-        i += 1;
-    }
-    high
+    let span = span_near(points, start, end, near);
+    set_flags(flags, span.low, span.high);
+    span.high
 }
 
 // The same with no place to start from.
@@ -160,40 +267,29 @@ pub fn mark_points(flags: &mut [u8], points: &[u32], start: u32, end: u32)
     mark_points_near(flags, points, start, end, points.len());
 }
 
-// Copies the values whose flag is set to the front of out; how many.
-pub fn copy_marked(flags: &[u8], values: &[u32], out: &mut [u32]) -> usize
-    requires { ⌜ Places (now flags) (now values) (now out) ⌝ }
-    ensures { λ r. ⌜ r ≡ length (kept (now (flags .entry)) (now (values .entry))) ⌝ }
-    ensures { λ _. ⌜ now (out .exit) ≡ sets (now (out .entry)) 0 (kept (now (flags .entry)) (now (values .entry))) ⌝ }
+// Copies the pairs whose flag is set to the front of the columns lent for them; how many.
+pub fn copy_marked(
+    flags: &[u8],
+    codes: &[u32],
+    glyphs: &[u16],
+    tocodes: &mut [u32],
+    toglyphs: &mut [u16],
+) -> usize
+    requires { ⌜ Places (now flags) (now codes) (now glyphs) (now tocodes) (now toglyphs) ⌝ }
+    ensures { λ r. ⌜ r ≡ length (kept (now (flags .entry)) (now (codes .entry))) ⌝ }
+    ensures { λ _. ⌜ now (tocodes .exit) ≡ sets (now (tocodes .entry)) 0 (kept (now (flags .entry)) (now (codes .entry))) ⌝ }
+    ensures { λ _. ⌜ now (toglyphs .exit) ≡ sets (now (toglyphs .entry)) 0 (kept (now (flags .entry)) (now (glyphs .entry))) ⌝ }
 {
     let mut i = 0;
     let mut k = 0;
-    while i < values.len() {
+    while i < codes.len() {
         let flag = flags[i];
-        let value = values[i];
+        let code = codes[i];
+        let glyph = glyphs[i];
         i += 1;
         if flag != 0 {
-            out[k] = value;
-            k += 1;
-        }
-    }
-    k
-}
-
-// The same for glyphs.
-pub fn copy_marked_glyphs(flags: &[u8], values: &[u16], out: &mut [u16]) -> usize
-    requires { ⌜ Places (now flags) (now values) (now out) ⌝ }
-    ensures { λ r. ⌜ r ≡ length (kept (now (flags .entry)) (now (values .entry))) ⌝ }
-    ensures { λ _. ⌜ now (out .exit) ≡ sets (now (out .entry)) 0 (kept (now (flags .entry)) (now (values .entry))) ⌝ }
-{
-    let mut i = 0;
-    let mut k = 0;
-    while i < values.len() {
-        let flag = flags[i];
-        let value = values[i];
-        i += 1;
-        if flag != 0 {
-            out[k] = value;
+            tocodes[k] = code;
+            toglyphs[k] = glyph;
             k += 1;
         }
     }

@@ -1,3 +1,5 @@
+-- What does not fall rises, so the last is the greatest.
+use Rattle.checks.proofs.ChecksLaws.{rising-told}
 use Rattle.laws.proofs.ChoiceLaws.{one-of}
 use borrow.Author.Needs.{needs}
 use Rattle.checks.proofs.bad_requested.Statement.{statement}
@@ -9,13 +11,11 @@ falls16-requires c κs = search needs
 returns : tie.Need-returns
 returns c = search one-of
 
-reaches-count-requires : tie.Need-reaches-count-requires
-reaches-count-requires c κs = search needs
+last-reaches-requires : tie.Need-last-reaches-requires
+last-reaches-requires c κs = search rising-told
 
 returns-2 : tie.Need-returns-2
 returns-2 c = search one-of
 
 pub bad-requested-spec : {M : Type 1} → statement M
-bad-requested-spec =
-    tie.close
-    (tie.spec falls16-requires returns reaches-count-requires returns-2)
+bad-requested-spec = tie.close (tie.spec falls16-requires returns last-reaches-requires returns-2)

@@ -1,3 +1,4 @@
+-- Each listed point is asked for.
 use borrow.Author.Needs.{needs}
 use native.Mathlib.Omega.{arith}
 use Prim.Native.Nat.{_-_}
@@ -37,6 +38,9 @@ is-missing-requires c κs = search needs
 returns : tie.Need-returns Inv-loop μ-loop
 returns c = lacks-told _ _ _ (search asking)
 
+add-near : tie.Need-add-near Inv-loop μ-loop
+add-near c = search needs
+
 add-i : tie.Need-add-i Inv-loop μ-loop
 add-i c = omega arith
 
@@ -63,6 +67,7 @@ lacks-spec =
     shared-slice-read-is-missing
     is-missing-requires
     returns
+    add-near
     add-i
     loop-less
     loop-again

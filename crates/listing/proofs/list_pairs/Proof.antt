@@ -6,9 +6,6 @@ use Rattle.listing.proofs.list_pairs.Tie as tie
 collect-unicodes-requires : tie.Need-collect-unicodes-requires
 collect-unicodes-requires c κs = search needs
 
-copy-marked-glyphs-requires : tie.Need-copy-marked-glyphs-requires
-copy-marked-glyphs-requires c κs = search needs
-
 copy-marked-requires : tie.Need-copy-marked-requires
 copy-marked-requires c κs = search needs
 
@@ -29,7 +26,6 @@ list-pairs-spec =
     tie.close
     (tie.spec
     collect-unicodes-requires
-    copy-marked-glyphs-requires
     copy-marked-requires
     same-length
     same-length-2

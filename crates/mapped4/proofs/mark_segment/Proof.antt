@@ -8,25 +8,13 @@ use Rattle.mapped4.proofs.mark_segment.Statement.{statement}
 use Rattle.mapped4.proofs.mark_segment.Tie as tie
 
 abbrev Inv-loop : tie.InvT-loop
-Inv-loop s at segs len i segment points flags₀ near low high j₀ flags j = Painting (says4 s at segs len i segment) points flags₀ flags low high j
+Inv-loop s at segs len i segment points flags₀ near span j₀ flags j = Painting (says4 s at segs len i segment) points flags₀ flags (span .low) (span .high) j
 
 abbrev μ-loop : tie.MeasureT-loop
-μ-loop s at segs len i segment points flags₀ near low high j₀ flags j = high - j
+μ-loop s at segs len i segment points flags₀ near span j₀ flags j = span .high - j
 
-cast-count-near : tie.Need-cast-count-near Inv-loop μ-loop
-cast-count-near c = search needs
-
-count-near-requires : tie.Need-count-near-requires Inv-loop μ-loop
-count-near-requires c κs = search needs
-
-cast-count-near-2 : tie.Need-cast-count-near-2 Inv-loop μ-loop
-cast-count-near-2 c = search needs
-
-add-count-near : tie.Need-add-count-near Inv-loop μ-loop
-add-count-near c = search needs
-
-count-near-requires-2 : tie.Need-count-near-requires-2 Inv-loop μ-loop
-count-near-requires-2 c κs = search needs
+span-near-requires : tie.Need-span-near-requires Inv-loop μ-loop
+span-near-requires c κs = search needs
 
 loop-holds : tie.Need-loop-holds Inv-loop μ-loop
 loop-holds c = search painting
@@ -38,11 +26,7 @@ shared-slice-read-c : tie.Need-shared-slice-read-c Inv-loop μ-loop
 shared-slice-read-c c = search needs
 
 segment-maps-requires : tie.Need-segment-maps-requires Inv-loop μ-loop
-segment-maps-requires c κs =
-    let first = c .before .before .before .before .before .count-near .ensures in
-    let last = c .before .before .before .count-near2 .ensures in
-    let here = c .before .before .loop .inv .from in
-    (search needs, (search needs, (search needs, inside _ _ _ _ _ _ (c .before .before .before .before .before .before .before .before .before .before .pre .1 .1 .1 .rising) first last here (c .before .loop-test .taken))))
+segment-maps-requires c κs = (search needs, (search needs, (search needs, search inside)))
 
 flag-of-requires : tie.Need-flag-of-requires Inv-loop μ-loop
 flag-of-requires c κs = search needs
@@ -71,11 +55,7 @@ mark-segment-spec =
     (tie.spec
     Inv-loop
     μ-loop
-    cast-count-near
-    count-near-requires
-    cast-count-near-2
-    add-count-near
-    count-near-requires-2
+    span-near-requires
     loop-holds
     mul-c
     shared-slice-read-c
