@@ -1,5 +1,5 @@
 -- The records taken from the flags are those of the new table, so its size and its bytes are theirs.
-use Prim.Native.Nat.{ℕ, _+_, _*_, _≤_}
+use Prim.Native.Nat.{ℕ, _+_, _-_, _*_, _≤_}
 use mathlib.Core.Path.{_≡_, refl, sym, ap, _∙_}
 use mathlib.Core.List.{List, [], _∷_}
 use mathlib.Core.Bool.{Bool, true, false}
@@ -13,7 +13,7 @@ use Rattle.number.specs.BigEndian.{be, put}
 use Rattle.uvs.specs.Checksum.{mixed, checksum}
 use Rattle.uvs.specs.Default.{follow, longest, longRanges, singlePoints, inRanges, coveredBy, coveredPoints, rangeBytes, newRecords, newDefault}
 use Rattle.uvs.proofs.ChecksumLaws.{checksum-table}
-use Rattle.uvs.proofs.TablesLaws.{size-none, size-some, write-none, write-head, write-room, write-some}
+use Rattle.uvs.proofs.TablesLaws.{size-none, size-some, write-none, write-room, write-some}
 use Rattle.default_uvs.specs.Stream.{Lent, Count, records, mostOf}
 use Rattle.default_uvs.proofs.CoverLaws.{points-covered}
 use Rattle.default_uvs.proofs.StreamLaws.{range-size}
@@ -50,23 +50,17 @@ module _ (xs : List ℕ) (p : ℕ) (ks fs₀ fs : List ℕ) (most : ℕ) (h : Le
     unfolding newDefault
     new-some z = size-some rangeBytes (newRecords xs p ks) k count-new 4 range-size z
 
-    module _ (out : List ℕ) (to : ℕ) where
-      pub copy-none : k ≡ 0 → out ≡ sets out to (newDefault xs p ks)
+    module _ (out : List ℕ) (to : ℕ) (mid : List ℕ) (d : mid ≡ sets out (to + 4) (flat rangeBytes (records most ks fs 0))) where
+      pub copy-none : k ≡ 0 → mid ≡ sets out to (newDefault xs p ks)
       unfolding newDefault
-      copy-none z = write-none rangeBytes (newRecords xs p ks) k count-new out to z
+      copy-none z = write-none rangeBytes (newRecords xs p ks) out to k count-new mid (rw records-new at d) z
 
-      pub copy-head : to + length (newDefault xs p ks) ≤ length out → (k ≡ 0 → ⊥) → to + 4 ≤ length out
+      pub copy-some : (k ≡ 0 → ⊥) → (fin : List ℕ) → fin ≡ put 4 mid to k → fin ≡ sets out to (newDefault xs p ks)
       unfolding newDefault
-      copy-head r z = write-head rangeBytes (newRecords xs p ks) k count-new out to r z
+      copy-some z fin f = write-some rangeBytes (newRecords xs p ks) out to k count-new mid (rw records-new at d) z fin f
 
-      pub copy-room : (mid : List ℕ) → mid ≡ put 4 out to k → to + length (newDefault xs p ks) ≤ length out → (k ≡ 0 → ⊥)
-          → to + 4 + length (flat rangeBytes (records most ks fs 0)) ≤ length mid
-      unfolding newDefault
-      copy-room mid d r z = rw records-new (write-room rangeBytes (newRecords xs p ks) k count-new out to mid d r z)
+  pub copy-room : (out : List ℕ) (to : ℕ) → to + length (newDefault xs p ks) ≤ length out → 4 ≤ length out - to → to + 4 + length (flat rangeBytes (records most ks fs 0)) ≤ length out
+  unfolding newDefault
+  copy-room out to r l = rw records-new (write-room rangeBytes (newRecords xs p ks) out to r l)
 
-      pub copy-some : (k ≡ 0 → ⊥) → (mid fin : List ℕ) → mid ≡ put 4 out to k → fin ≡ sets mid (to + 4) (flat rangeBytes (records most ks fs 0))
-          → fin ≡ sets out to (newDefault xs p ks)
-      unfolding newDefault
-      copy-some z mid fin d f = write-some rangeBytes (newRecords xs p ks) k count-new out to z mid fin d (rw records-new at f)
-
-pub ruleset new-rules = (new-none, new-some, copy-none, copy-some)
+pub ruleset new-rules = (new-none, new-some, copy-none, copy-some, copy-room)

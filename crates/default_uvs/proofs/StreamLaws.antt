@@ -1,5 +1,5 @@
 -- The flagged points from a place on, and the records made of them, one after the other.
-use Prim.Native.Nat.{ℕ, zero, suc, _+_, _-_, _%_, _<_, _≤_}
+use Prim.Native.Nat.{ℕ, zero, suc, _+_, _-_, _*_, _%_, _<_, _≤_}
 use mathlib.Core.Path.{_≡_, refl, sym, ap, _∙_}
 use mathlib.Core.List.{List, [], _∷_}
 use mathlib.Core.Bool.{Bool, true, false}
@@ -225,40 +225,43 @@ module _ (most : ℕ) (ks fs : List ℕ) (i : ℕ) where
 
 pub ruleset summed = (summed-start, summed-here, summed-on, summed-end)
 
--- written: what is left of the records, from `place` into `out`, gives the whole from `to` into out₀
-pub record Written (most : ℕ) (ks fs out₀ : List ℕ) (to : ℕ) (out : List ℕ) (i place : ℕ) : Type 0 where
+-- written: with k records written from `to`, what is left of them, behind those, gives the whole
+pub record Written (most : ℕ) (ks fs out₀ : List ℕ) (to : ℕ) (out : List ℕ) (i k : ℕ) : Type 0 where
   pub standing : Standing ks fs i
   pub same : length out ≡ length out₀
-  pub room : place + length (flat rangeBytes (records most ks fs i)) ≤ length out
-  pub left : sets out place (flat rangeBytes (records most ks fs i)) ≡ sets out₀ to (flat rangeBytes (records most ks fs 0))
+  pub room : to + 4 * k + length (flat rangeBytes (records most ks fs i)) ≤ length out
+  pub left : sets out (to + 4 * k) (flat rangeBytes (records most ks fs i)) ≡ sets out₀ to (flat rangeBytes (records most ks fs 0))
 
 pub range-size : (a : Pair) → length (rangeBytes a) ≡ 4
 range-size a = rw (length-append, length-enc 3 (a .0), length-enc 1 (a .1))
 
 module _ (most : ℕ) (ks fs out₀ : List ℕ) (to : ℕ) where
-  pub written-start : (i : ℕ) → Point ks fs 0 i → to + length (flat rangeBytes (records most ks fs 0)) ≤ length out₀ → Written most ks fs out₀ to out₀ i to
-  written-start i p r = record { standing = standing-start most ks fs i p; same = refl; room = rw (p .same) at r; left = rw (← p .same) }
+  pub written-start : (i : ℕ) → Point ks fs 0 i → to + length (flat rangeBytes (records most ks fs 0)) ≤ length out₀ → Written most ks fs out₀ to out₀ i 0
+  written-start i p r =
+      let z : to + 4 * 0 ≡ to = omega arith in
+      record { standing = standing-start most ks fs i p; same = refl; room = rw z (rw (p .same) at r); left = rw (z, ← p .same) }
 
-  module _ (out : List ℕ) (i place : ℕ) (l : Written most ks fs out₀ to out i place) where
+  module _ (out : List ℕ) (i k : ℕ) (l : Written most ks fs out₀ to out i k) where
     pub written-here : i < length ks → Beside ks fs → Start ks fs i
     written-here h b = start-here most ks fs i (l .standing) h b
 
-    pub written-room : (a j : ℕ) → Next most ks fs i a j → place + 4 ≤ length out
+    pub written-room : (a j : ℕ) → Next most ks fs i a j → to + 4 * k + 4 ≤ length out
     unfolding flat
     written-room a j n =
         let r = rw (n .gives, length-append, range-size (getD ks i 0, a)) at (l .room) in
         omega (arith, r)
 
-    pub written-on : (a j : ℕ) (next : List ℕ) → Next most ks fs i a j → next ≡ sets out place (rangeBytes (getD ks i 0, a)) → Written most ks fs out₀ to next j (place + 4)
+    pub written-on : (a j : ℕ) (next : List ℕ) → Next most ks fs i a j → next ≡ sets out (to + 4 * k) (rangeBytes (getD ks i 0, a)) → Written most ks fs out₀ to next j (k + 1)
     unfolding flat
     written-on a j next n e =
         let r = rw (n .gives, length-append, range-size (getD ks i 0, a)) at (l .room) in
+        let z : to + 4 * (k + 1) ≡ to + 4 * k + length (rangeBytes (getD ks i 0, a)) = rw (range-size (getD ks i 0, a)) (omega arith) in
         record {
           standing = standing-on most ks fs i a j n;
           same = rw (e, length-sets) (l .same);
           room = rw (e, length-sets) (omega (arith, r));
           left =
-              rw (e, ← range-size (getD ks i 0, a), sets-append out place (rangeBytes (getD ks i 0, a)) (flat rangeBytes (records most ks fs j)))
+              rw (e, z, sets-append out (to + 4 * k) (rangeBytes (getD ks i 0, a)) (flat rangeBytes (records most ks fs j)))
               (rw (n .gives) at (l .left));
         }
 

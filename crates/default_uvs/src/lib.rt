@@ -24,15 +24,16 @@ fn bit_length(r: u32) -> u64
     b
 }
 
-// Sets the flags of the points that the range at `place` covers, its start and all after it.
-fn mark_range(flags: &mut [u8], s: &[u8], place: usize, kept: &[u32])
+// Sets the flags of the points that the range at `place` covers, its start and all after it; the number of points up to its end. A walk over
+// ranges in order hands that number on as `near`, which changes the time alone.
+fn mark_range(flags: &mut [u8], s: &[u8], place: usize, kept: &[u32], near: usize) -> usize
     requires { ⌜ place + 4 ≤ length (now s) ⌝ }
     requires { ⌜ Flags (now kept) (now flags) ⌝ }
     ensures { λ _. ⌜ now (flags .exit) ≡ marked (λ c. covers c (range (now (s .entry)) place)) (now (kept .entry)) (now (flags .entry)) ⌝ }
 {
     let start = number::u24_at(s, place);
     let additional = number::byte_at(s, place + 3);
-    marks::mark_points(flags, kept, start, start + additional);
+    marks::mark_points_near(flags, kept, start, start + additional, near)
 }
 
 // Whether c is the point after a record's last.
@@ -65,8 +66,9 @@ fn cover(flags: &mut [u8], s: &[u8], p: usize, kept: &[u32])
     marks::clear(flags, kept.len());
     let r = number::u32_at(s, p) as usize;
     let mut i = 0;
+    let mut near = 0;
     while i < r {
-        mark_range(flags, s, p + 4 + 4 * i, kept);
+        near = mark_range(flags, s, p + 4 + 4 * i, kept, near);
         i += 1;
     }
 }
@@ -119,21 +121,6 @@ pub fn next_range(kept: &[u32], flags: &[u8], i: usize, most: u32) -> UnicodeRan
     }
 }
 
-// How many records the new table has.
-fn count_ranges(kept: &[u32], flags: &[u8], most: u32) -> usize
-    requires { ⌜ Beside (now kept) (now flags) ⌝ }
-    ensures { λ r. ⌜ Count most (now (kept .entry)) (now (flags .entry)) r ⌝ }
-{
-    let mut i = next_point(kept, flags, 0);
-    let mut n = 0;
-    while i < kept.len() {
-        let r = next_range(kept, flags, i, most);
-        i = r.next;
-        n += 1;
-    }
-    n
-}
-
 // A checksum with one record more.
 fn mix_range(sum: u32, start: u32, additional: u32) -> u32
     ensures { λ r. ⌜ r ≡ mixed sum (rangeBytes (start, additional)) ⌝ }
@@ -141,19 +128,28 @@ fn mix_range(sum: u32, start: u32, additional: u32) -> u32
     uvs::mix_byte(uvs::mix_u24(sum, start), additional)
 }
 
-// A checksum of every record.
-fn sum_ranges(kept: &[u32], flags: &[u8], most: u32) -> u32
+// How many records there are, and a checksum of them.
+struct RecordsMeasure {
+    count: usize,
+    sum: u32,
+}
+
+// Both in one walk.
+fn measure_ranges(kept: &[u32], flags: &[u8], most: u32) -> RecordsMeasure
     requires { ⌜ Beside (now kept) (now flags) ⌝ }
-    ensures { λ r. ⌜ r ≡ mixed 0 (flat rangeBytes (records most (now (kept .entry)) (now (flags .entry)) 0)) ⌝ }
+    ensures { λ r. ⌜ Count most (now (kept .entry)) (now (flags .entry)) (r .count) ⌝ }
+    ensures { λ r. ⌜ r .sum ≡ mixed 0 (flat rangeBytes (records most (now (kept .entry)) (now (flags .entry)) 0)) ⌝ }
 {
     let mut i = next_point(kept, flags, 0);
+    let mut n = 0;
     let mut sum = 0;
     while i < kept.len() {
         let r = next_range(kept, flags, i, most);
         sum = mix_range(sum, kept[i], r.additional);
         i = r.next;
+        n += 1;
     }
-    sum
+    RecordsMeasure { count: n, sum: sum }
 }
 
 // Writes one record.
@@ -165,20 +161,22 @@ fn copy_range(out: &mut [u8], to: usize, start: u32, additional: u32)
     out[to + 3] = (additional % 256) as u8;
 }
 
-// Writes every record.
-fn copy_ranges(out: &mut [u8], to: usize, kept: &[u32], flags: &[u8], most: u32)
+// Writes every record; how many.
+fn copy_ranges(out: &mut [u8], to: usize, kept: &[u32], flags: &[u8], most: u32) -> usize
     requires { ⌜ Beside (now kept) (now flags) ⌝ }
     requires { ⌜ to + length (flat rangeBytes (records most (now kept) (now flags) 0)) ≤ length (now out) ⌝ }
+    ensures { λ r. ⌜ Count most (now (kept .entry)) (now (flags .entry)) r ⌝ }
     ensures { λ _. ⌜ now (out .exit) ≡ sets (now (out .entry)) to (flat rangeBytes (records most (now (kept .entry)) (now (flags .entry)) 0)) ⌝ }
 {
     let mut i = next_point(kept, flags, 0);
-    let mut place = to;
+    let mut n = 0;
     while i < kept.len() {
         let r = next_range(kept, flags, i, most);
-        copy_range(out, place, kept[i], r.additional);
+        copy_range(out, to + 4 * n, kept[i], r.additional);
         i = r.next;
-        place += 4;
+        n += 1;
     }
+    n
 }
 
 // Flags the covered points, and tells how many may follow a record's start.
@@ -204,18 +202,20 @@ pub fn measure_default(s: &[u8], p: usize, kept: &[u32], flags: &mut [u8]) -> De
     ensures { λ _. ⌜ now (flags .exit) ≡ sets (now (flags .entry)) 0 (flagged (coveredBy (now (s .entry)) p) (now (kept .entry))) ⌝ }
 {
     let most = prepare(flags, s, p, kept);
-    let n = count_ranges(kept, flags, most);
-    let sum = sum_ranges(kept, flags, most);
-    if n == 0 {
-        return DefaultMeasure { size: 0, sum: sum };
+    let ranges = measure_ranges(kept, flags, most);
+    if ranges.count == 0 {
+        return DefaultMeasure {
+            size: 0,
+            sum: ranges.sum,
+        };
     }
     DefaultMeasure {
-        size: 4 + 4 * n,
-        sum: sum,
+        size: 4 + 4 * ranges.count,
+        sum: ranges.sum,
     }
 }
 
-// Writes the new table; nothing where there is none.
+// Writes the new table, its count after its records; nothing where there is none.
 pub fn copy_default_uvs(
     out: &mut [u8],
     to: usize,
@@ -230,10 +230,12 @@ pub fn copy_default_uvs(
     ensures { λ _. ⌜ now (flags .exit) ≡ sets (now (flags .entry)) 0 (flagged (coveredBy (now (s .entry)) p) (now (kept .entry))) ⌝ }
 {
     let most = prepare(flags, s, p, kept);
-    let n = count_ranges(kept, flags, most);
+    if out.len() - to < 4 {
+        return;
+    }
+    let n = copy_ranges(out, to + 4, kept, flags, most);
     if n == 0 {
         return;
     }
     number::put_u32(out, to, n as u32);
-    copy_ranges(out, to + 4, kept, flags, most);
 }

@@ -1,7 +1,7 @@
 -- Which mappings stay, which glyph a map gives, and which it misses: the code's answers are the definitions'.
-use Prim.Native.Nat.{ℕ, _+_, _*_, _^_, _<_, _≤_}
-use mathlib.Core.Path.{_≡_, sym, _∙_}
-use mathlib.Core.List.{List}
+use Prim.Native.Nat.{ℕ, _+_, _-_, _*_, _^_, _<_, _≤_}
+use mathlib.Core.Path.{_≡_, refl, sym, _∙_}
+use mathlib.Core.List.{List, [], _∷_}
 use mathlib.Core.Bool.{Bool, true, false}
 use native.Mathlib.Omega.{arith}
 use borrow.Author.Tests.{lt-leb, le-leb}
@@ -10,11 +10,12 @@ use lib.Dec.{eqb}
 use lib.Seq.{sets}
 use Rattle.laws.proofs.ChoiceLaws.{by-leb}
 use Rattle.laws.proofs.ReadLaws.{getD-in}
-use Rattle.marks.specs.Marks.{holds}
+use Rattle.marks.specs.Marks.{holds, Bound}
+use Rattle.marks.proofs.BelowLaws.{below-past, below-upto}
 use Rattle.number.specs.BigEndian.{be, enc, put, Num}
 use Rattle.number.proofs.BigEndianLaws.{put-after, length-enc}
 use Rattle.number.specs.Limits.{absent}
-use Rattle.laws.specs.Lists.{Pair}
+use Rattle.laws.specs.Lists.{Pair, Rising}
 use Rattle.laws.specs.Select.{flat}
 use Rattle.laws.specs.Search.{some}
 use Rattle.laws.proofs.SelectLaws.{any-select, Counting, counting-end, Copying, copying-start, copying-room, copying-yes, copying-no, copying-end}
@@ -25,6 +26,18 @@ use Rattle.uvs.proofs.ChecksumLaws.{mix-both, checksum-table, Summing, summing-
 use Rattle.uvs.specs.NonDefault.{mapping, mappingAt, mappingBytes, keepsMapping, keptMappings, newNonDefault, missing, badMapping}
 use Rattle.non_default_uvs.specs.Lent.{Count, New, badAt}
 
+-- ---- the kept points below a code point
+
+-- the points up to i are below c, and the one at i is not
+module _ (ps : List ℕ) (c i : ℕ) (r : Rising ps) (h : i < length ps) (e : c ≤ getD ps i 0) where
+  pub bound-first : i ≡ 0 → Bound ps c 0
+  bound-first z = record { is = omega (arith, below-upto ps c i r h e); within = omega arith }
+
+  pub bound-here : (i ≡ 0 → ⊥) → getD ps (i - 1) 0 < c → Bound ps c i
+  bound-here z l = record { is = omega (arith, below-upto ps c i r h e, below-past ps c (i - 1) r (omega arith) l); within = omega arith }
+
+pub ruleset bounds = (bound-first, bound-here)
+
 -- ---- keepsMapping
 
 module _ (xs : List ℕ) (place : ℕ) (kept requested : List ℕ) (c : ℕ) (b : Bool) (n : Num 3 xs place c) (e : b ≡ holds kept c) where
@@ -32,12 +45,20 @@ module _ (xs : List ℕ) (place : ℕ) (kept requested : List ℕ) (c : ℕ) (b 
   unfolding keepsMapping
   keeps-kept t = rw (← n .is, ← e, t)
 
+  pub keeps-none : b ≡ false → length requested ≡ 0 → false ≡ keepsMapping kept requested (mapping xs place)
+  unfolding keepsMapping holds
+  keeps-none t z = rw (← n .is, ← e, t) (none requested z)
+    where
+      none : (gs : List ℕ) → length gs ≡ 0 → false ≡ holds gs (be 2 xs (place + 3))
+      none [] z = refl
+      none (g ∷ gs) z = absurd (omega arith)
+
   pub keeps-asked : b ≡ false → (g : ℕ) (d : Bool) → Num 2 xs (place + 3) g → d ≡ holds requested g
       → d ≡ keepsMapping kept requested (mapping xs place)
   unfolding keepsMapping
   keeps-asked t g d m h = rw (← n .is, ← e, t, ← m .is) h
 
-pub ruleset keeps-rules = (keeps-kept, keeps-asked)
+pub ruleset keeps-rules = (keeps-kept, keeps-none, keeps-asked)
 
 -- ---- the map
 
@@ -127,24 +148,28 @@ copy-is xs place map out mid fin to c g n hc hg hn e d =
 -- ---- all that stay, written one after the other
 
 module _ (xs : List ℕ) (p : ℕ) (kept map requested : List ℕ) (m : ℕ) (out₀ : List ℕ) (to : ℕ) where
-  -- the loop's invariant
+  -- the loop's invariant: n mappings are written
   abbrev pub Copies : List ℕ → ℕ → ℕ → Type 0
-  Copies out place i = Copying (mappingBytes map) (keepsMapping kept requested) (mappingAt xs p) m out₀ to out place i
+  Copies out n i = Copying (mappingBytes map) (keepsMapping kept requested) (mappingAt xs p) m out₀ to out (to + 5 * n) i
 
-  pub copies-start : Num 4 xs p m → to + length (flat (mappingBytes map) (keptMappings xs p kept requested)) ≤ length out₀ → Copies out₀ to 0
-  copies-start n h = copying-start (mappingBytes map) (keepsMapping kept requested) (mappingAt xs p) m out₀ to (rw (n .is) h)
+  pub copies-start : Num 4 xs p m → to + length (flat (mappingBytes map) (keptMappings xs p kept requested)) ≤ length out₀ → Copies out₀ 0 0
+  copies-start k h =
+      let z : to + 5 * 0 ≡ to = omega arith in
+      rw z (copying-start (mappingBytes map) (keepsMapping kept requested) (mappingAt xs p) m out₀ to (rw (k .is) h))
 
-  module _ (out : List ℕ) (place i : ℕ) (b : Bool) (l : Copies out place i) (h : i < m) (e : b ≡ keepsMapping kept requested (mappingAt xs p i)) where
-    pub copies-room : b ≡ true → place + 5 ≤ length out
-    copies-room t = rw (mapping-size map (mappingAt xs p i)) at (copying-room (mappingBytes map) (keepsMapping kept requested) (mappingAt xs p) m out₀ to out place i b l h e t)
+  module _ (out : List ℕ) (n i : ℕ) (b : Bool) (l : Copies out n i) (h : i < m) (e : b ≡ keepsMapping kept requested (mappingAt xs p i)) where
+    pub copies-room : b ≡ true → to + 5 * n + 5 ≤ length out
+    copies-room t = rw (mapping-size map (mappingAt xs p i)) at (copying-room (mappingBytes map) (keepsMapping kept requested) (mappingAt xs p) m out₀ to out (to + 5 * n) i b l h e t)
 
-    pub copies-yes : b ≡ true → (next : List ℕ) → next ≡ sets out place (mappingBytes map (mappingAt xs p i)) → Copies next (place + 5) (i + 1)
-    copies-yes t next d = rw (mapping-size map (mappingAt xs p i)) at (copying-yes (mappingBytes map) (keepsMapping kept requested) (mappingAt xs p) m out₀ to out place i b l h e t next d)
+    pub copies-yes : b ≡ true → (next : List ℕ) → next ≡ sets out (to + 5 * n) (mappingBytes map (mappingAt xs p i)) → Copies next (n + 1) (i + 1)
+    copies-yes t next d =
+        let z : to + 5 * n + 5 ≡ to + 5 * (n + 1) = omega arith in
+        rw (mapping-size map (mappingAt xs p i), z) at (copying-yes (mappingBytes map) (keepsMapping kept requested) (mappingAt xs p) m out₀ to out (to + 5 * n) i b l h e t next d)
 
-    pub copies-no : b ≡ false → Copies out place (i + 1)
-    copies-no t = copying-no (mappingBytes map) (keepsMapping kept requested) (mappingAt xs p) m out₀ to out place i b l h e t
+    pub copies-no : b ≡ false → Copies out n (i + 1)
+    copies-no t = copying-no (mappingBytes map) (keepsMapping kept requested) (mappingAt xs p) m out₀ to out (to + 5 * n) i b l h e t
 
-  pub copies-end : Num 4 xs p m → (out : List ℕ) (place i : ℕ) → Copies out place i → m ≤ i → out ≡ sets out₀ to (flat (mappingBytes map) (keptMappings xs p kept requested))
-  copies-end n out place i l h = rw (n .is) at (copying-end (mappingBytes map) (keepsMapping kept requested) (mappingAt xs p) m out₀ to out place i l h)
+  pub copies-end : Num 4 xs p m → (out : List ℕ) (n i : ℕ) → Copies out n i → m ≤ i → out ≡ sets out₀ to (flat (mappingBytes map) (keptMappings xs p kept requested))
+  copies-end k out n i l h = rw (k .is) at (copying-end (mappingBytes map) (keepsMapping kept requested) (mappingAt xs p) m out₀ to out (to + 5 * n) i l h)
 
 pub ruleset copies = (copies-start, copies-yes, copies-no, copies-end)

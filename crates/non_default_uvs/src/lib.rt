@@ -3,21 +3,79 @@ ghost use mathlib.Core.Path.{_≡_};
 ghost use Prim.Native.Nat.{_+_, _*_, _<_, _≤_};
 ghost use lib.ListN.{length};
 ghost use lib.Seq.{sets};
+ghost use Rattle.laws.specs.Lists.{Rising};
 ghost use Rattle.laws.specs.Select.{flat};
+ghost use Rattle.marks.specs.Marks.{holds, Bound};
 ghost use Rattle.number.specs.BigEndian.{be};
 ghost use Rattle.uvs.specs.Checksum.{mixed, checksum};
 ghost use Rattle.uvs.specs.NonDefault.{mapping, keepsMapping, keptMappings, mappingBytes, newNonDefault, badMapping};
 ghost use Rattle.non_default_uvs.specs.Lent.{Mapping, Table, New, Count, badAt};
 
-// Whether the mapping at `place` stays: its code point is kept, or its old glyph requested.
-pub fn keeps_mapping(s: &[u8], place: usize, kept: &[u32], requested: &[u16]) -> bool
-    requires { ⌜ Mapping (now s) place (now kept) (now requested) ⌝ }
-    ensures { λ r. ⌜ r ≡ keepsMapping (now (kept .entry)) (now (requested .entry)) (mapping (now (s .entry)) place) ⌝ }
+// How many kept points are below c; `near` itself is returned at once where it is still that number, and changes the time alone.
+fn count_at(kept: &[u32], c: u32, near: usize) -> usize
+    requires { ⌜ Rising (now kept) ⌝ }
+    ensures { λ r. ⌜ Bound (now (kept .entry)) c r ⌝ }
 {
-    if marks::member(kept, number::u24_at(s, place)) {
-        return true;
+    if near < kept.len() {
+        if c <= kept[near] {
+            if near == 0 {
+                return 0;
+            }
+            if kept[near - 1] < c {
+                return near;
+            }
+        }
     }
-    marks::member_glyph(requested, number::u16_at(s, place + 3) as u16)
+    marks::count_near(kept, c as u64, near)
+}
+
+// Whether c is a kept point, where i of them are below it.
+fn stands_at(kept: &[u32], c: u32, i: usize) -> bool
+    requires { ⌜ Rising (now kept) × Bound (now kept) c i ⌝ }
+    ensures { λ r. ⌜ r ≡ holds (now (kept .entry)) c ⌝ }
+{
+    if i < kept.len() {
+        return kept[i] == c;
+    }
+    false
+}
+
+// Whether a mapping stays, and how many kept points are below its code point, from where the next one is looked for.
+pub struct Staying {
+    pub stays: bool,
+    pub near: usize,
+}
+
+// Whether the mapping at `place` stays: its code point is kept, or its old glyph requested.
+pub fn keeps_mapping(
+    s: &[u8],
+    place: usize,
+    kept: &[u32],
+    requested: &[u16],
+    near: usize,
+) -> Staying
+    requires { ⌜ Mapping (now s) place (now kept) (now requested) ⌝ }
+    ensures { λ r. ⌜ r .stays ≡ keepsMapping (now (kept .entry)) (now (requested .entry)) (mapping (now (s .entry)) place) ⌝ }
+{
+    let c = number::u24_at(s, place);
+    let i = count_at(kept, c, near);
+    if stands_at(kept, c, i) {
+        return Staying {
+            stays: true,
+            near: i,
+        };
+    }
+    if requested.len() == 0 {
+        return Staying {
+            stays: false,
+            near: i,
+        };
+    }
+    let asked = marks::member_glyph(requested, number::u16_at(s, place + 3) as u16);
+    Staying {
+        stays: asked,
+        near: i,
+    }
 }
 
 // The new glyph of an old one; 65,535 where the map has none.
@@ -30,16 +88,39 @@ pub fn new_glyph(map: &[u16], old: u32) -> u16
     number::limits::NewGlyph::ABSENT
 }
 
+// Whether a mapping is bad, and from where the next one is looked for.
+struct Bad {
+    bad: bool,
+    near: usize,
+}
+
 // Whether mapping i is to be kept and names a glyph that the map misses.
-fn is_bad(s: &[u8], p: usize, kept: &[u32], map: &[u16], requested: &[u16], i: usize) -> bool
+fn is_bad(
+    s: &[u8],
+    p: usize,
+    kept: &[u32],
+    map: &[u16],
+    requested: &[u16],
+    i: usize,
+    near: usize,
+) -> Bad
     requires { ⌜ Mapping (now s) (p + 4 + 5 * i) (now kept) (now requested) ⌝ }
-    ensures { λ r. ⌜ r ≡ badAt (now (s .entry)) p (now (kept .entry)) (now (map .entry)) (now (requested .entry)) i ⌝ }
+    ensures { λ r. ⌜ r .bad ≡ badAt (now (s .entry)) p (now (kept .entry)) (now (map .entry)) (now (requested .entry)) i ⌝ }
 {
     let place = p + 4 + 5 * i;
-    if keeps_mapping(s, place, kept, requested) {
-        return new_glyph(map, number::u16_at(s, place + 3)) == number::limits::NewGlyph::ABSENT;
+    let looked = keeps_mapping(s, place, kept, requested, near);
+    if looked.stays {
+        let absent = new_glyph(map, number::u16_at(s, place + 3))
+            == number::limits::NewGlyph::ABSENT;
+        return Bad {
+            bad: absent,
+            near: looked.near,
+        };
     }
-    false
+    Bad {
+        bad: false,
+        near: looked.near,
+    }
 }
 
 // Refusal 8: whether some mapping to be kept names a glyph that the map misses.
@@ -49,31 +130,16 @@ pub fn bad_mapping(s: &[u8], p: usize, kept: &[u32], map: &[u16], requested: &[u
 {
     let m = number::u32_at(s, p) as usize;
     let mut i = 0;
+    let mut near = 0;
     while i < m {
-        if is_bad(s, p, kept, map, requested, i) {
+        let found = is_bad(s, p, kept, map, requested, i, near);
+        if found.bad {
             return true;
         }
+        near = found.near;
         i += 1;
     }
     false
-}
-
-// How many mappings stay.
-fn count_mappings(s: &[u8], p: usize, kept: &[u32], requested: &[u16]) -> usize
-    requires { ⌜ Table (now s) p (now kept) (now requested) ⌝ }
-    ensures { λ r. ⌜ Count (now (s .entry)) p (now (kept .entry)) (now (requested .entry)) r ⌝ }
-{
-    let m = number::u32_at(s, p) as usize;
-    let mut i = 0;
-    let mut n = 0;
-    while i < m {
-        let stays = keeps_mapping(s, p + 4 + 5 * i, kept, requested);
-        i += 1;
-        if stays {
-            n += 1;
-        }
-    }
-    n
 }
 
 // A checksum with one mapping more: its code point and new glyph.
@@ -107,13 +173,15 @@ pub fn measure_non_default(
 {
     let m = number::u32_at(s, p) as usize;
     let mut i = 0;
+    let mut near = 0;
     let mut n = 0;
     let mut sum = 0;
     while i < m {
         let from = p + 4 + 5 * i;
-        let stays = keeps_mapping(s, from, kept, requested);
+        let found = keeps_mapping(s, from, kept, requested, near);
+        near = found.near;
         i += 1;
-        if stays {
+        if found.stays {
             n += 1;
             sum = mix_mapping(sum, s, from, map);
         }
@@ -139,7 +207,7 @@ fn copy_uvs_mapping(out: &mut [u8], to: usize, s: &[u8], place: usize, map: &[u1
     number::put_u16(out, to + 3, new);
 }
 
-// Writes every mapping that stays, in the source's order.
+// Writes every mapping that stays, in the source's order; how many.
 fn copy_mappings(
     out: &mut [u8],
     to: usize,
@@ -148,26 +216,30 @@ fn copy_mappings(
     kept: &[u32],
     map: &[u16],
     requested: &[u16],
-)
+) -> usize
     requires { ⌜ Table (now s) p (now kept) (now requested) ⌝ }
     requires { ⌜ to + length (flat (mappingBytes (now map)) (keptMappings (now s) p (now kept) (now requested))) ≤ length (now out) ⌝ }
+    ensures { λ r. ⌜ Count (now (s .entry)) p (now (kept .entry)) (now (requested .entry)) r ⌝ }
     ensures { λ _. ⌜ now (out .exit) ≡ sets (now (out .entry)) to (flat (mappingBytes (now (map .entry))) (keptMappings (now (s .entry)) p (now (kept .entry)) (now (requested .entry)))) ⌝ }
 {
     let m = number::u32_at(s, p) as usize;
     let mut i = 0;
-    let mut place = to;
+    let mut near = 0;
+    let mut n = 0;
     while i < m {
         let from = p + 4 + 5 * i;
-        let stays = keeps_mapping(s, from, kept, requested);
+        let found = keeps_mapping(s, from, kept, requested, near);
+        near = found.near;
         i += 1;
-        if stays {
-            copy_uvs_mapping(out, place, s, from, map);
-            place += 5;
+        if found.stays {
+            copy_uvs_mapping(out, to + 5 * n, s, from, map);
+            n += 1;
         }
     }
+    n
 }
 
-// Writes the new table; nothing where there is none.
+// Writes the new table, its count after its mappings; nothing where there is none.
 pub fn copy_non_default_uvs(
     out: &mut [u8],
     to: usize,
@@ -181,10 +253,12 @@ pub fn copy_non_default_uvs(
     requires { ⌜ to + length (newNonDefault (now s) p (now kept) (now map) (now requested)) ≤ length (now out) ⌝ }
     ensures { λ _. ⌜ now (out .exit) ≡ sets (now (out .entry)) to (newNonDefault (now (s .entry)) p (now (kept .entry)) (now (map .entry)) (now (requested .entry))) ⌝ }
 {
-    let n = count_mappings(s, p, kept, requested);
+    if out.len() - to < 4 {
+        return;
+    }
+    let n = copy_mappings(out, to + 4, s, p, kept, map, requested);
     if n == 0 {
         return;
     }
     number::put_u32(out, to, n as u32);
-    copy_mappings(out, to + 4, s, p, kept, map, requested);
 }

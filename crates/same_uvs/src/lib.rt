@@ -12,20 +12,43 @@ ghost use Rattle.default_uvs.specs.Stream.{Lent};
 ghost use Rattle.same_uvs.specs.Streams.{CodePoints, Fits, Flagging, sameRanges};
 ghost use Rattle.same_uvs.specs.Rows.{sameRows, Row, Stay};
 
-// The first mapping from i on that stays, or the number of mappings.
-fn next_mapping(s: &[u8], p: usize, m: usize, kept: &[u32], requested: &[u16], i: usize) -> usize
+// The number of a mapping, and how many kept points are below the code point of the last one looked up.
+struct Stop {
+    mapping: usize,
+    near: usize,
+}
+
+// The first mapping from i on that stays, or the number of mappings. Kept points are looked for from `near` on, which changes the time alone.
+fn next_mapping(
+    s: &[u8],
+    p: usize,
+    m: usize,
+    kept: &[u32],
+    requested: &[u16],
+    i: usize,
+    near: usize,
+) -> Stop
     requires { ⌜ Row (now s) p m (now kept) (now requested) ⌝ }
     requires { ⌜ i ≤ m ⌝ }
-    ensures { λ r. ⌜ Stay (now (s .entry)) p m (now (kept .entry)) (now (requested .entry)) i r ⌝ }
+    ensures { λ r. ⌜ Stay (now (s .entry)) p m (now (kept .entry)) (now (requested .entry)) i (r .mapping) ⌝ }
 {
     let mut j = i;
+    let mut place = near;
     while j < m {
-        if non_default_uvs::keeps_mapping(s, p + 4 + 5 * j, kept, requested) {
-            return j;
+        let found = non_default_uvs::keeps_mapping(s, p + 4 + 5 * j, kept, requested, place);
+        place = found.near;
+        if found.stays {
+            return Stop {
+                mapping: j,
+                near: place,
+            };
         }
         j += 1;
     }
-    j
+    Stop {
+        mapping: j,
+        near: place,
+    }
 }
 
 // Whether two mappings get the same bytes: the same code point, and new glyphs that are the same.
@@ -56,15 +79,23 @@ fn same_rows(
     requires { ⌜ Row (now s) q n (now kept) (now requested) ⌝ }
     ensures { λ r. ⌜ r ≡ sameRows (now (s .entry)) (now (kept .entry)) (now (map .entry)) (now (requested .entry)) p m q n ⌝ }
 {
-    let mut i = next_mapping(s, p, m, kept, requested, 0);
-    let mut j = next_mapping(s, q, n, kept, requested, 0);
+    let first = next_mapping(s, p, m, kept, requested, 0, 0);
+    let second = next_mapping(s, q, n, kept, requested, 0, 0);
+    let mut i = first.mapping;
+    let mut near = first.near;
+    let mut j = second.mapping;
+    let mut far = second.near;
     while i < m {
         if n <= j {
             return false;
         }
         if same_mapping(s, p + 4 + 5 * i, q + 4 + 5 * j, map) {
-            i = next_mapping(s, p, m, kept, requested, i + 1);
-            j = next_mapping(s, q, n, kept, requested, j + 1);
+            let a = next_mapping(s, p, m, kept, requested, i + 1, near);
+            let b = next_mapping(s, q, n, kept, requested, j + 1, far);
+            i = a.mapping;
+            near = a.near;
+            j = b.mapping;
+            far = b.near;
         } else {
             return false;
         }

@@ -1,5 +1,5 @@
 -- When a table counts, read off the tests of the code; how long a new table is.
-use Prim.Native.Nat.{ℕ, _+_, _*_, _^_, _<_, _≤_}
+use Prim.Native.Nat.{ℕ, _+_, _-_, _*_, _^_, _<_, _≤_}
 use mathlib.Core.Path.{_≡_, refl, sym, ap, _∙_}
 use mathlib.Core.List.{List, [], _∷_, _++_}
 use mathlib.Core.Bool.{Bool, true, false}
@@ -8,14 +8,15 @@ use native.Mathlib.Omega.{arith}
 use borrow.Author.Tests.{leb-true, lt-ltb, le-ltb, le-leb, lt-leb}
 use lib.Dec.{ltb, leb}
 use Rattle.laws.specs.Choice.{pick, both}
-use Rattle.laws.proofs.ChoiceLaws.{both-left, both-right, pick-same}
+use Rattle.laws.proofs.ChoiceLaws.{both-left, both-right, pick-same, by-leb}
 use lib.ListN.{length, length-append}
 use lib.Seq.{sets}
 use Rattle.laws.specs.Select.{flat, eqList}
 use Rattle.laws.proofs.EqListLaws.{eq-refl, eq-true, eq-append, eq-none, none-eq}
 use Rattle.laws.proofs.SelectLaws.{length-flat}
+use Rattle.laws.proofs.SetsCommLaws.{sets-before}
 use Rattle.number.specs.BigEndian.{be, enc, put, Num}
-use Rattle.number.proofs.BigEndianLaws.{length-enc, length-put, put-left}
+use Rattle.number.proofs.BigEndianLaws.{length-enc}
 use Rattle.uvs.specs.Tables.{counts, table}
 
 -- ---- counts
@@ -79,24 +80,35 @@ module _ {A : Type 0} (w : A → List ℕ) (xs : List A) (n : ℕ) (e : n ≡ le
   pub size-some : (size : ℕ) → ((x : A) → length (w x) ≡ size) → (n ≡ 0 → ⊥) → 4 + size * n ≡ length (table w xs)
   size-some size h z = rw (table-some z, length-append, length-enc, length-flat w size h xs, ← e)
 
-  module _ (out : List ℕ) (to : ℕ) where
-    pub write-none : n ≡ 0 → out ≡ sets out to (table w xs)
-    write-none z = rw (table-none z)
+-- The records are written behind a place for their count, which comes last. With no record there may be no such place.
+module _ {A : Type 0} (w : A → List ℕ) (xs : List A) (out : List ℕ) (to : ℕ) where
+  pub write-short : to + length (table w xs) ≤ length out → length out - to < 4 → out ≡ sets out to (table w xs)
+  write-short r h = by-leb (out ≡ sets out to (table w xs)) 1 (length xs)
+      (λ (l : 1 ≤ length xs). absurd (omega (arith, rw (table-some w xs (length xs) refl (λ z. omega arith), length-append, length-enc) at r)))
+      (λ (l : length xs < 1). rw (table-none w xs (length xs) refl (omega arith)))
 
-    pub write-head : to + length (table w xs) ≤ length out → (n ≡ 0 → ⊥) → to + 4 ≤ length out
-    write-head r z =
-        let k = rw (table-some z, length-append, length-enc) at r in
-        omega (arith, k)
+  pub write-room : to + length (table w xs) ≤ length out → 4 ≤ length out - to → to + 4 + length (flat w xs) ≤ length out
+  unfolding flat
+  write-room r h = room xs r
+    where
+      room : (xs : List A) → to + length (table w xs) ≤ length out → to + 4 + length (flat w xs) ≤ length out
+      room [] r = omega arith
+      room (x ∷ xs) r = omega (arith, rw (table-some w (x ∷ xs) (length (x ∷ xs)) refl (λ z. omega arith), length-append, length-enc) at r)
 
-    pub write-room : (mid : List ℕ) → mid ≡ put 4 out to n → to + length (table w xs) ≤ length out → (n ≡ 0 → ⊥) → to + 4 + length (flat w xs) ≤ length mid
-    write-room mid d r z =
-        let k = rw (table-some z, length-append, length-enc) at r in
-        rw (d, length-put 4 out to n) (omega (arith, k))
+  module _ (n : ℕ) (e : n ≡ length xs) (mid : List ℕ) (d : mid ≡ sets out (to + 4) (flat w xs)) where
+    pub write-none : n ≡ 0 → mid ≡ sets out to (table w xs)
+    unfolding flat
+    write-none z = d ∙ none xs (sym e ∙ z)
+      where
+        none : (xs : List A) → length xs ≡ 0 → sets out (to + 4) (flat w xs) ≡ sets out to (table w xs)
+        none [] h = rw (table-none w [] 0 refl refl)
+        none (x ∷ xs) h = absurd (omega arith)
 
-    pub write-some : (n ≡ 0 → ⊥) → (mid fin : List ℕ) → mid ≡ put 4 out to n → fin ≡ sets mid (to + 4) (flat w xs) → fin ≡ sets out to (table w xs)
-    write-some z mid fin d f = rw (f, d, table-some z) (put-left 4 out to n (flat w xs))
+    pub write-some : (n ≡ 0 → ⊥) → (fin : List ℕ) → fin ≡ put 4 mid to n → fin ≡ sets out to (table w xs)
+    unfolding put
+    write-some z fin f = rw (f, d, table-some w xs n e z) (sets-before out (enc 4 n) (flat w xs) (to + 4) to (rw (length-enc 4 n)))
 
-pub ruleset writes = (write-none, write-some)
+pub ruleset writes = (write-short, write-room, write-none, write-some)
 
 -- two tables are equal exactly where their records' bytes are
 pub eq-table : {A : Type 0} (w : A → List ℕ) (size : ℕ) → 0 < size → ((x : A) → length (w x) ≡ size) → (xs ys : List A)

@@ -1,16 +1,16 @@
 -- Marking the ranges still to come gives what marking all of them gives, and that flags every covered point.
+use Rattle.default_uvs.proofs.cover.Statement.{statement}
+use Rattle.default_uvs.proofs.cover.Tie as tie
 use borrow.Author.Needs.{needs}
 use native.Mathlib.Omega.{arith}
 use Prim.Native.Nat.{_-_}
 use Rattle.default_uvs.proofs.CoverLaws.{Covering, covering}
-use Rattle.default_uvs.proofs.cover.Statement.{statement}
-use Rattle.default_uvs.proofs.cover.Tie as tie
 
 abbrev Inv-loop : tie.InvT-loop
-Inv-loop flags₀ s p kept r i₀ flags i = Covering s p kept r flags₀ flags i
+Inv-loop flags₀ s p kept r i₀ near₀ flags i near = Covering s p kept r flags₀ flags i
 
 abbrev μ-loop : tie.MeasureT-loop
-μ-loop flags₀ s p kept r i₀ flags i = r - i
+μ-loop flags₀ s p kept r i₀ near₀ flags i near = r - i
 
 clear-requires : tie.Need-clear-requires Inv-loop μ-loop
 clear-requires c κs = search needs

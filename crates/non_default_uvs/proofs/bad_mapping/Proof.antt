@@ -1,18 +1,18 @@
 -- The mappings still to be asked tell what all of them tell.
-use borrow.Author.Needs.{needs}
-use native.Mathlib.Omega.{arith}
-use Rattle.non_default_uvs.proofs.MappingLaws.{bad-table}
-use Prim.Native.Nat.{_-_}
-use Rattle.non_default_uvs.specs.Lent.{badAt}
-use Rattle.laws.proofs.SearchLaws.{Asking, asking}
 use Rattle.non_default_uvs.proofs.bad_mapping.Statement.{statement}
 use Rattle.non_default_uvs.proofs.bad_mapping.Tie as tie
+use borrow.Author.Needs.{needs}
+use native.Mathlib.Omega.{arith}
+use Prim.Native.Nat.{_-_}
+use Rattle.non_default_uvs.proofs.MappingLaws.{bad-table}
+use Rattle.non_default_uvs.specs.Lent.{badAt}
+use Rattle.laws.proofs.SearchLaws.{Asking, asking}
 
 abbrev Inv-loop : tie.InvT-loop
-Inv-loop s p kept map requested m i₀ i = Asking (badAt s p kept map requested) m i
+Inv-loop s p kept map requested m i₀ near₀ i near = Asking (badAt s p kept map requested) m i
 
 abbrev μ-loop : tie.MeasureT-loop
-μ-loop s p kept map requested m i₀ i = m - i
+μ-loop s p kept map requested m i₀ near₀ i near = m - i
 
 u32-at-requires : tie.Need-u32-at-requires Inv-loop μ-loop
 u32-at-requires c κs = search needs

@@ -1,8 +1,8 @@
 -- Where the mapping stays, its glyph is missing exactly where the map gives the absent one.
-use Rattle.non_default_uvs.proofs.MappingLaws.{bad-rules}
-use borrow.Author.Needs.{needs}
 use Rattle.non_default_uvs.proofs.is_bad.Statement.{statement}
 use Rattle.non_default_uvs.proofs.is_bad.Tie as tie
+use Rattle.non_default_uvs.proofs.MappingLaws.{bad-rules}
+use borrow.Author.Needs.{needs}
 
 add-place : tie.Need-add-place
 add-place c = search needs

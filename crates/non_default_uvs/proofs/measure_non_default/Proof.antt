@@ -1,19 +1,19 @@
 -- Mappings passed and mappings still to come give the whole count and the whole checksum.
-use borrow.Author.Needs.{needs}
-use Prim.Native.Nat.{_-_}
-use native.Mathlib.Omega.{arith}
-use Rattle.uvs.specs.NonDefault.{mappingAt, mappingBytes, keepsMapping}
-use Rattle.uvs.proofs.ChecksumLaws.{Summing, summing}
-use Rattle.laws.proofs.SelectLaws.{Counting, counting}
-use Rattle.non_default_uvs.proofs.MappingLaws.{lengths, sum-all}
 use Rattle.non_default_uvs.proofs.measure_non_default.Statement.{statement}
 use Rattle.non_default_uvs.proofs.measure_non_default.Tie as tie
+use borrow.Author.Needs.{needs}
+use native.Mathlib.Omega.{arith}
+use Prim.Native.Nat.{_-_}
+use Rattle.laws.proofs.SelectLaws.{Counting, counting}
+use Rattle.uvs.specs.NonDefault.{mappingAt, mappingBytes, keepsMapping}
+use Rattle.non_default_uvs.proofs.MappingLaws.{lengths, sum-all}
+use Rattle.uvs.proofs.ChecksumLaws.{Summing, summing}
 
 abbrev Inv-loop : tie.InvT-loop
-Inv-loop s p kept map requested m i₀ n₀ sum₀ i n sum = Counting (keepsMapping kept requested) (mappingAt s p) m i n × Summing (mappingBytes map) (keepsMapping kept requested) (mappingAt s p) m i sum
+Inv-loop s p kept map requested m i₀ near₀ n₀ sum₀ i near n sum = Counting (keepsMapping kept requested) (mappingAt s p) m i n × Summing (mappingBytes map) (keepsMapping kept requested) (mappingAt s p) m i sum
 
 abbrev μ-loop : tie.MeasureT-loop
-μ-loop s p kept map requested m i₀ n₀ sum₀ i n sum = m - i
+μ-loop s p kept map requested m i₀ near₀ n₀ sum₀ i near n sum = m - i
 
 u32-at-requires : tie.Need-u32-at-requires Inv-loop μ-loop
 u32-at-requires c κs = search needs
@@ -60,11 +60,11 @@ loop-again-2 c = (search counting, search summing)
 returns : tie.Need-returns Inv-loop μ-loop
 returns c = (search lengths, search sum-all)
 
-mul-t17 : tie.Need-mul-t17 Inv-loop μ-loop
-mul-t17 c = search needs
+mul-t18 : tie.Need-mul-t18 Inv-loop μ-loop
+mul-t18 c = search needs
 
-add-t18 : tie.Need-add-t18 Inv-loop μ-loop
-add-t18 c = search needs
+add-t19 : tie.Need-add-t19 Inv-loop μ-loop
+add-t19 c = search needs
 
 returns-2 : tie.Need-returns-2 Inv-loop μ-loop
 returns-2 c = (search lengths, search sum-all)
@@ -90,6 +90,6 @@ measure-non-default-spec =
     loop-less-2
     loop-again-2
     returns
-    mul-t17
-    add-t18
+    mul-t18
+    add-t19
     returns-2)

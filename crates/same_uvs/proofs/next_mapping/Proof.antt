@@ -1,16 +1,17 @@
 -- Mappings that do not stay may be passed by.
+use Rattle.same_uvs.proofs.next_mapping.Statement.{statement}
+use Rattle.same_uvs.proofs.next_mapping.Tie as tie
 use borrow.Author.Needs.{needs}
 use native.Mathlib.Omega.{arith}
 use Prim.Native.Nat.{_-_}
 use Rattle.same_uvs.proofs.RowLaws.{Seeking, seeking}
-use Rattle.same_uvs.proofs.next_mapping.Statement.{statement}
-use Rattle.same_uvs.proofs.next_mapping.Tie as tie
+use Rattle.same_uvs.proofs.RowLaws.{seeking-found, seeking-on}
 
 abbrev Inv-loop : tie.InvT-loop
-Inv-loop s p m kept requested i j₀ j = Seeking s p m kept requested i j
+Inv-loop s p m kept requested i near j₀ place₀ j place = Seeking s p m kept requested i j
 
 abbrev μ-loop : tie.MeasureT-loop
-μ-loop s p m kept requested i j₀ j = m - j
+μ-loop s p m kept requested i near j₀ place₀ j place = m - j
 
 loop-holds : tie.Need-loop-holds Inv-loop μ-loop
 loop-holds c = search (needs, seeking)
@@ -28,7 +29,7 @@ keeps-mapping-requires : tie.Need-keeps-mapping-requires Inv-loop μ-loop
 keeps-mapping-requires c κs = search needs
 
 returns : tie.Need-returns Inv-loop μ-loop
-returns c = search seeking
+returns c = seeking-found _ _ _ _ _ _ _ _ (c .before .before .before .loop .inv) (c .before .keeps-mapping .ensures) (c .if1 .taken)
 
 add-j : tie.Need-add-j Inv-loop μ-loop
 add-j c = search needs
@@ -37,7 +38,7 @@ loop-less : tie.Need-loop-less Inv-loop μ-loop
 loop-less c = omega arith
 
 loop-again : tie.Need-loop-again Inv-loop μ-loop
-loop-again c = search seeking
+loop-again c = seeking-on _ _ _ _ _ _ _ _ (c .before .before .before .loop .inv) (c .before .before .loop-test .taken) (c .before .keeps-mapping .ensures) (c .if1 .left)
 
 returns-2 : tie.Need-returns-2 Inv-loop μ-loop
 returns-2 c = search seeking

@@ -1,16 +1,16 @@
 -- While the records are equal, what is left tells what the whole tells.
+use Rattle.same_uvs.proofs.same_rows.Statement.{statement}
+use Rattle.same_uvs.proofs.same_rows.Tie as tie
+use Rattle.same_uvs.proofs.RowLaws.{Pairing, pairing}
 use borrow.Author.Needs.{needs}
 use native.Mathlib.Omega.{arith}
 use Prim.Native.Nat.{_-_}
-use Rattle.same_uvs.proofs.RowLaws.{Pairing, pairing}
-use Rattle.same_uvs.proofs.same_rows.Statement.{statement}
-use Rattle.same_uvs.proofs.same_rows.Tie as tie
 
 abbrev Inv-loop : tie.InvT-loop
-Inv-loop s p m q n kept map requested i₀ j₀ i j = Pairing s kept map requested p m q n i j
+Inv-loop s p m q n kept map requested i₀ near₀ j₀ far₀ i near j far = Pairing s kept map requested p m q n i j
 
 abbrev μ-loop : tie.MeasureT-loop
-μ-loop s p m q n kept map requested i₀ j₀ i j = m - i
+μ-loop s p m q n kept map requested i₀ near₀ j₀ far₀ i near j far = m - i
 
 next-mapping-requires : tie.Need-next-mapping-requires Inv-loop μ-loop
 next-mapping-requires c κs = search needs
@@ -52,7 +52,7 @@ next-mapping-requires-3 : tie.Need-next-mapping-requires-3 Inv-loop μ-loop
 next-mapping-requires-3 c κs = search needs
 
 add-next-mapping-2 : tie.Need-add-next-mapping-2 Inv-loop μ-loop
-add-next-mapping-2 c = search needs
+add-next-mapping-2 c = record { fits = omega (arith, c .before .before .before .before .before .before .before .before .before .before .before .before .fits .n) }
 
 next-mapping-requires-4 : tie.Need-next-mapping-requires-4 Inv-loop μ-loop
 next-mapping-requires-4 c κs = search needs
