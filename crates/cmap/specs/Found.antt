@@ -1,4 +1,4 @@
--- What the functions ask for that tell fates, and the step of theirs that no other page tells.
+-- Inner: what the functions that tell fates ask for, and the step of theirs that no other page tells; no promise names it.
 use Prim.Native.Nat.{ℕ, _≤_, _<_}
 use mathlib.Core.Path.{_≡_}
 use mathlib.Core.List.{List}

@@ -64,12 +64,12 @@ covered xs n kept k = both (leadsToFormat 12 xs k) (siblingCovers xs n kept k)
 
 -- ---- the same asked of flags
 
--- a point at or above 0x10000 whose flag is set
-abbrev pub isAbove : List ℕ → List ℕ → ℕ → Bool
-isAbove points flags i = both (ltb 0 (getD flags i 0)) (leb 0x10000 (getD points i 0))
+-- one of the first n flags is set
+abbrev pub isSet : List ℕ → ℕ → Bool
+isSet flags i = ltb 0 (getD flags i 0)
 
-unfoldable pub flagAbove : List ℕ → List ℕ → Bool
-flagAbove points flags = some (isAbove points flags) (length points) 0
+unfoldable pub someSet : List ℕ → ℕ → Bool
+someSet flags n = some (isSet flags) n 0
 
 -- two flags of the first n that are not the same
 abbrev pub isOther : List ℕ → List ℕ → ℕ → Bool

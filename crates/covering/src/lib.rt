@@ -3,11 +3,13 @@ use source::Kind;
 ghost use mathlib.Core.Path.{_≡_};
 ghost use Prim.Native.Nat.{_≤_, _<_};
 ghost use lib.ListN.{length};
-ghost use lib.Dec.{ltb, leb, eqb};
+ghost use lib.Dec.{ltb, eqb};
 ghost use mathlib.Core.Bool.{not};
 ghost use Rattle.laws.specs.Choice.{both};
+ghost use Rattle.laws.specs.Select.{anyOf};
 ghost use Rattle.records.specs.Records.{leadsTo, isPair, Placed, Counted};
-ghost use Rattle.covering.specs.Covered.{siblingPair, languageOf, speaks, isSibling, firstSibling, flagAbove, flagsDiffer, siblingCovers, covered, Rooms};
+ghost use Rattle.listing.specs.Listing.{maps, Beside};
+ghost use Rattle.covering.specs.Covered.{siblingPair, languageOf, speaks, isSibling, firstSibling, reachesAbove, someSet, flagsDiffer, siblingCovers, covered, Rooms};
 
 fn language_of(kind: Kind) -> u32
     ensures { λ r. ⌜ r ≡ languageOf kind ⌝ }
@@ -104,26 +106,46 @@ fn first_sibling(s: &[u8], n: usize, k: usize) -> usize
     i
 }
 
-fn is_above(flag: u8, point: u32) -> bool
-    ensures { λ r. ⌜ r ≡ both (ltb 0 flag) (leb 0x10000 point) ⌝ }
+fn is_set(flag: u8) -> bool
+    ensures { λ r. ⌜ r ≡ ltb 0 flag ⌝ }
 {
-    if 0 < flag {
-        return 0x10000 <= point;
+    0 < flag
+}
+
+// Whether one of the first n flags is set.
+fn some_set(flags: &[u8], n: usize) -> bool
+    requires { ⌜ n ≤ length (now flags) ⌝ }
+    ensures { λ r. ⌜ r ≡ someSet (now (flags .entry)) n ⌝ }
+{
+    let mut i = 0;
+    while i < n {
+        if is_set(flags[i]) {
+            return true;
+        }
+        i += 1;
     }
     false
 }
 
-// Whether some point at or above 0x10000 has its flag set.
-fn flag_above(points: &[u32], flags: &[u8]) -> bool
-    requires { ⌜ length (now points) ≤ length (now flags) ⌝ }
-    ensures { λ r. ⌜ r ≡ flagAbove (now (points .entry)) (now (flags .entry)) ⌝ }
+// Whether the subtable of record k maps one of the points.
+fn maps_some(s: &[u8], k: usize, n: u32, points: &[u32], flags: &mut [u8]) -> bool
+    requires { ⌜ Placed (now s) k ⌝ }
+    requires { ⌜ Beside n (now points) (now flags) ⌝ }
+    ensures { λ r. ⌜ r ≡ anyOf (maps (now (s .entry)) n k) (now (points .entry)) ⌝ }
 {
-    let mut i = 0;
-    while i < points.len() {
-        if is_above(flags[i], points[i]) {
-            return true;
-        }
-        i += 1;
+    listing::collect_record(s, k, n, points, flags);
+    some_set(flags, points.len())
+}
+
+// Whether it maps a kept point at or above 0x10000: no other kept point is looked at.
+fn reaches_above(s: &[u8], k: usize, n: u32, kept: &[u32], flags: &mut [u8]) -> bool
+    requires { ⌜ Placed (now s) k ⌝ }
+    requires { ⌜ Beside n (now kept) (now flags) ⌝ }
+    ensures { λ r. ⌜ r ≡ reachesAbove (now (s .entry)) n (now (kept .entry)) k ⌝ }
+{
+    let split = marks::count_near(kept, 0x10000, kept.len());
+    if split < kept.len() {
+        return maps_some(s, k, n, &kept[split..], flags);
     }
     false
 }
@@ -166,10 +188,10 @@ fn sibling_covers(
     if m <= i {
         return false;
     }
-    listing::collect_record(s, k, n, kept, flags);
-    if flag_above(kept, flags) {
+    if reaches_above(s, k, n, kept, flags) {
         return false;
     }
+    listing::collect_record(s, k, n, kept, flags);
     listing::collect_record(s, i, n, kept, others);
     !flags_differ(flags, others, kept.len())
 }

@@ -20,22 +20,7 @@ use Rattle.result.specs.Refusal.{earlyRefusal}
 use Rattle.result.proofs.RefusalLaws.{early-passed}
 use Rattle.refusing.proofs.RefusingLaws.{early-prepared}
 use Rattle.writing.specs.Writing.{Counts, Planned as Written}
-use Rattle.rooms.specs.Rooms.{isSmall, Passing, Planned}
-
--- ---- small jobs
-
-module _ (cs ks : List ℕ) (e : isSmall cs ks ≡ true) where
-  small-kept : length ks ≤ 4096
-  unfolding isSmall
-  small-kept = leb-true (length ks) 4096 (both-left (leb (length ks) 4096) (leb (length cs) 2048) e)
-
-  small-pairs : length cs ≤ 2048
-  unfolding isSmall
-  small-pairs = leb-true (length cs) 2048 (both-right (leb (length ks) 4096) (leb (length cs) 2048) e)
-
-module _ (cs ks : List ℕ) (t : Bool) where
-  pub told-small : t ≡ isSmall cs ks → t ≡ true → isSmall cs ks ≡ true
-  told-small q e = sym q ∙ e
+use Rattle.rooms.specs.Rooms.{Passing, Planned, Few}
 
 -- ---- by the job
 
@@ -66,10 +51,10 @@ module _ (s cs gs ks ms rs : List ℕ) where
           rw e (early-prepared j flags others tocodes toglyphs (p .passed) (omega (arith, f, l .few-pairs)) (omega (arith, f, l .kept-few)) (omega (arith, o, l .kept-few))
           (omega (arith, c, l .few-pairs)) (omega (arith, g, l .few-pairs)))
 
-      pub small-room : isSmall cs ks ≡ true → length flags ≡ 4096 → length others ≡ 4096 → length tocodes ≡ 2048 → length toglyphs ≡ 2048 → Prepared j m flags others tocodes toglyphs
+      pub small-room : Few cs ks → length flags ≡ 4096 → length others ≡ 4096 → length tocodes ≡ 2048 → length toglyphs ≡ 2048 → Prepared j m flags others tocodes toglyphs
       small-room q f o c g =
-          rw e (early-prepared j flags others tocodes toglyphs (p .passed) (omega (arith, f, small-pairs cs ks q)) (omega (arith, f, small-kept cs ks q)) (omega (arith, o, small-kept cs ks q))
-          (omega (arith, c, small-pairs cs ks q)) (omega (arith, g, small-pairs cs ks q)))
+          rw e (early-prepared j flags others tocodes toglyphs (p .passed) (omega (arith, f, q .pairs)) (omega (arith, f, q .points)) (omega (arith, o, q .points))
+          (omega (arith, c, q .pairs)) (omega (arith, g, q .pairs)))
 
   module _ (os : List Outcome) (p : Planned j os) where
     pub planned-long : 4 ≤ length s
@@ -94,7 +79,7 @@ module _ (s cs gs ks ms rs : List ℕ) where
         counts = c;
       }
 
-      pub small-writing : isSmall cs ks ≡ true → length flags ≡ 4096 → length tocodes ≡ 2048 → length toglyphs ≡ 2048 → Written j os count flags tocodes toglyphs
+      pub small-writing : Few cs ks → length flags ≡ 4096 → length tocodes ≡ 2048 → length toglyphs ≡ 2048 → Written j os count flags tocodes toglyphs
       small-writing q f t g = record {
         m = recordCount s;
         others = flags;
@@ -103,4 +88,4 @@ module _ (s cs gs ks ms rs : List ℕ) where
         counts = c;
       }
 
-pub ruleset passing = (told-small, passes, source-long, planned, full-room, small-room, planned-long, planned-counted, planned-few, planned-counts, full-writing, small-writing)
+pub ruleset passing = (passes, source-long, planned, full-room, small-room, planned-long, planned-counted, planned-few, planned-counts, full-writing, small-writing)

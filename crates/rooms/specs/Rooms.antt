@@ -1,11 +1,8 @@
--- What the functions ask for that work in room of their own.
+-- Inner: what the functions of this crate ask for, which work in room of their own; no promise names it.
 use mathlib.Core.Path.{_≡_}
 use mathlib.Core.List.{List}
-use mathlib.Core.Bool.{Bool}
-use Prim.Native.Nat.{ℕ}
-use lib.Dec.{leb}
+use Prim.Native.Nat.{ℕ, _≤_}
 use lib.ListN.{length}
-use Rattle.laws.specs.Choice.{both}
 use Rattle.listing.specs.Job.{Job}
 use Rattle.plan.specs.declared.Outcome.{Outcome}
 use Rattle.plan.specs.Plan.{plan, Small}
@@ -22,5 +19,6 @@ pub record Planned (j : Job) (os : List Outcome) : Type 0 where
   pub small : Small os
 
 -- the small work room is enough
-unfoldable pub isSmall : List ℕ → List ℕ → Bool
-isSmall codes kept = both (leb (length kept) 4096) (leb (length codes) 2048)
+pub record Few (codes kept : List ℕ) : Type 0 where
+  pub points : length kept ≤ 4096
+  pub pairs : length codes ≤ 2048

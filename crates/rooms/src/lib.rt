@@ -3,7 +3,6 @@ use number::limits::KEPT_MAX;
 use number::limits::PAIRS_MAX;
 use plan::Outcome;
 ghost use mathlib.Core.Path.{_≡_};
-ghost use mathlib.Core.Bool.{true};
 ghost use Prim.Native.Nat.{_≤_};
 ghost use lib.ListN.{length};
 ghost use lib.Seq.{sets};
@@ -12,7 +11,7 @@ ghost use Rattle.listing.specs.Job.{job};
 ghost use Rattle.plan.specs.Plan.{plan, Small};
 ghost use Rattle.result.specs.Result.{resultLength, resultOf};
 ghost use Rattle.writing.specs.Writing.{Counts};
-ghost use Rattle.rooms.specs.Rooms.{isSmall, Passing, Planned};
+ghost use Rattle.rooms.specs.Rooms.{Passing, Planned, Few};
 
 // Work room that is enough for most jobs, and cleared in no time.
 const SMALL_KEPT: usize = 4096;
@@ -99,7 +98,7 @@ fn plan_on_small_room(
     toglyphs: &mut [u16; SMALL_PAIRS],
 ) -> [Outcome; 64]
     requires { ⌜ Passing (job (now s) (now codes) (now glyphs) (now kept) (now map) (now requested)) ⌝ }
-    requires { ⌜ isSmall (now codes) (now kept) ≡ true ⌝ }
+    requires { ⌜ Few (now codes) (now kept) ⌝ }
     ensures { λ r. ⌜ (r ≡ plan (job (now (s .entry)) (now (codes .entry)) (now (glyphs .entry)) (now (kept .entry)) (now (map .entry)) (now (requested .entry)))) × Small r ⌝ }
 {
     let m = record_count(s);
@@ -127,7 +126,7 @@ fn plan_in_small_room(
     requested: &[u16],
 ) -> [Outcome; 64]
     requires { ⌜ Passing (job (now s) (now codes) (now glyphs) (now kept) (now map) (now requested)) ⌝ }
-    requires { ⌜ isSmall (now codes) (now kept) ≡ true ⌝ }
+    requires { ⌜ Few (now codes) (now kept) ⌝ }
     ensures { λ r. ⌜ (r ≡ plan (job (now (s .entry)) (now (codes .entry)) (now (glyphs .entry)) (now (kept .entry)) (now (map .entry)) (now (requested .entry)))) × Small r ⌝ }
 {
     let mut flags = [0u8; SMALL_KEPT];
@@ -148,15 +147,6 @@ fn plan_in_small_room(
     )
 }
 
-fn is_small(codes: &[u32], kept: &[u32]) -> bool
-    ensures { λ r. ⌜ r ≡ isSmall (now (codes .entry)) (now (kept .entry)) ⌝ }
-{
-    if kept.len() <= SMALL_KEPT {
-        return codes.len() <= SMALL_PAIRS;
-    }
-    false
-}
-
 // What becomes of the records.
 pub fn outcomes(
     s: &[u8],
@@ -169,10 +159,13 @@ pub fn outcomes(
     requires { ⌜ Passing (job (now s) (now codes) (now glyphs) (now kept) (now map) (now requested)) ⌝ }
     ensures { λ r. ⌜ (r ≡ plan (job (now (s .entry)) (now (codes .entry)) (now (glyphs .entry)) (now (kept .entry)) (now (map .entry)) (now (requested .entry)))) × Small r ⌝ }
 {
-    if is_small(codes, kept) {
-        return plan_in_small_room(s, codes, glyphs, kept, map, requested);
+    if SMALL_KEPT < kept.len() {
+        return plan_in_full_room(s, codes, glyphs, kept, map, requested);
     }
-    plan_in_full_room(s, codes, glyphs, kept, map, requested)
+    if SMALL_PAIRS < codes.len() {
+        return plan_in_full_room(s, codes, glyphs, kept, map, requested);
+    }
+    plan_in_small_room(s, codes, glyphs, kept, map, requested)
 }
 
 fn write_on_full_room(
@@ -262,7 +255,7 @@ fn write_on_small_room(
     requires { ⌜ Planned (job (now s) (now codes) (now glyphs) (now kept) (now map) (now requested)) os ⌝ }
     requires { ⌜ Counts os count ⌝ }
     requires { ⌜ resultLength os ≤ length (now out) ⌝ }
-    requires { ⌜ isSmall (now codes) (now kept) ≡ true ⌝ }
+    requires { ⌜ Few (now codes) (now kept) ⌝ }
     ensures { λ _. ⌜ now (out .exit) ≡ sets (now (out .entry)) 0 (resultOf (job (now (s .entry)) (now (codes .entry)) (now (glyphs .entry)) (now (kept .entry)) (now (map .entry)) (now (requested .entry))) os) ⌝ }
 {
     writing::serialize_cmap(
@@ -295,7 +288,7 @@ fn write_in_small_room(
     requires { ⌜ Planned (job (now s) (now codes) (now glyphs) (now kept) (now map) (now requested)) os ⌝ }
     requires { ⌜ Counts os count ⌝ }
     requires { ⌜ resultLength os ≤ length (now out) ⌝ }
-    requires { ⌜ isSmall (now codes) (now kept) ≡ true ⌝ }
+    requires { ⌜ Few (now codes) (now kept) ⌝ }
     ensures { λ _. ⌜ now (out .exit) ≡ sets (now (out .entry)) 0 (resultOf (job (now (s .entry)) (now (codes .entry)) (now (glyphs .entry)) (now (kept .entry)) (now (map .entry)) (now (requested .entry))) os) ⌝ }
 {
     let mut flags = [0u8; SMALL_KEPT];
@@ -334,9 +327,13 @@ pub fn write_result(
     requires { ⌜ resultLength os ≤ length (now out) ⌝ }
     ensures { λ _. ⌜ now (out .exit) ≡ sets (now (out .entry)) 0 (resultOf (job (now (s .entry)) (now (codes .entry)) (now (glyphs .entry)) (now (kept .entry)) (now (map .entry)) (now (requested .entry))) os) ⌝ }
 {
-    if is_small(codes, kept) {
-        write_in_small_room(out, s, codes, glyphs, kept, map, requested, os, count);
+    if SMALL_KEPT < kept.len() {
+        write_in_full_room(out, s, codes, glyphs, kept, map, requested, os, count);
         return;
     }
-    write_in_full_room(out, s, codes, glyphs, kept, map, requested, os, count);
+    if SMALL_PAIRS < codes.len() {
+        write_in_full_room(out, s, codes, glyphs, kept, map, requested, os, count);
+        return;
+    }
+    write_in_small_room(out, s, codes, glyphs, kept, map, requested, os, count);
 }

@@ -1,7 +1,7 @@
-use Rattle.covering.proofs.CoveredLaws.{covering}
 use borrow.Author.Needs.{needs}
 use Rattle.covering.proofs.sibling_covers.Statement.{statement}
 use Rattle.covering.proofs.sibling_covers.Tie as tie
+use Rattle.covering.proofs.CoveredLaws.{covering}
 
 first-sibling-requires : tie.Need-first-sibling-requires
 first-sibling-requires c κs = search needs
@@ -9,17 +9,17 @@ first-sibling-requires c κs = search needs
 returns : tie.Need-returns
 returns c = search covering
 
-collect-record-requires : tie.Need-collect-record-requires
-collect-record-requires c κs = search needs
-
-flag-above-requires : tie.Need-flag-above-requires
-flag-above-requires c κs = search needs
+reaches-above-requires : tie.Need-reaches-above-requires
+reaches-above-requires c κs = search needs
 
 same-length : tie.Need-same-length
 same-length c = search needs
 
 returns-2 : tie.Need-returns-2
 returns-2 c = search covering
+
+collect-record-requires : tie.Need-collect-record-requires
+collect-record-requires c κs = (search needs, search covering)
 
 collect-record-requires-2 : tie.Need-collect-record-requires-2
 collect-record-requires-2 c κs = search needs
@@ -42,10 +42,10 @@ sibling-covers-spec =
     (tie.spec
     first-sibling-requires
     returns
-    collect-record-requires
-    flag-above-requires
+    reaches-above-requires
     same-length
     returns-2
+    collect-record-requires
     collect-record-requires-2
     flags-differ-requires
     same-length-2

@@ -1,13 +1,10 @@
-use Rattle.rooms.proofs.RoomsLaws.{passing}
 use borrow.Author.Needs.{needs}
 use Rattle.rooms.proofs.write_result.Statement.{statement}
 use Rattle.rooms.proofs.write_result.Tie as tie
+use native.Mathlib.Omega.{arith}
 
-is-small-requires : tie.Need-is-small-requires
-is-small-requires c κs = search needs
-
-write-in-small-room-requires : tie.Need-write-in-small-room-requires
-write-in-small-room-requires c κs = (search needs, (search needs, (search needs, search passing)))
+write-in-full-room-requires : tie.Need-write-in-full-room-requires
+write-in-full-room-requires c κs = search needs
 
 same-length : tie.Need-same-length
 same-length c = search needs
@@ -15,8 +12,8 @@ same-length c = search needs
 returns : tie.Need-returns
 returns c = search needs
 
-write-in-full-room-requires : tie.Need-write-in-full-room-requires
-write-in-full-room-requires c κs = search needs
+write-in-full-room-requires-2 : tie.Need-write-in-full-room-requires-2
+write-in-full-room-requires-2 c κs = search needs
 
 same-length-2 : tie.Need-same-length-2
 same-length-2 c = search needs
@@ -24,14 +21,25 @@ same-length-2 c = search needs
 returns-2 : tie.Need-returns-2
 returns-2 c = search needs
 
+write-in-small-room-requires : tie.Need-write-in-small-room-requires
+write-in-small-room-requires c κs = (search needs, (search needs, (search needs, omega arith)))
+
+same-length-3 : tie.Need-same-length-3
+same-length-3 c = search needs
+
+returns-3 : tie.Need-returns-3
+returns-3 c = search needs
+
 pub write-result-spec : {M : Type 1} → statement M
 write-result-spec =
     tie.close
     (tie.spec
-    is-small-requires
-    write-in-small-room-requires
+    write-in-full-room-requires
     same-length
     returns
-    write-in-full-room-requires
+    write-in-full-room-requires-2
     same-length-2
-    returns-2)
+    returns-2
+    write-in-small-room-requires
+    same-length-3
+    returns-3)
