@@ -121,6 +121,65 @@ static void segments_as_sibling(job *j, size_t records)
     j->source_count = at12 + put_format12(j->source, at12, &start, &end, &glyph, 1);
 }
 
+/* 64 format 12 subtables that lie over one another, each 24 bytes behind the one before: what is a header to one is two empty groups to those before it */
+static void group_windows(job *j, size_t records)
+{
+    enum { GROUPS = 86000 };
+    header(j, records);
+    lent(j, 65535, 0, 1, 65535, 0);
+    size_t base = 4 + 8 * 64, first = base + 16 + 24 * 64;
+    for (size_t k = 0; k < 64; k++) {
+        size_t at = base + 24 * k, groups = 2 * (64 - k) + GROUPS;
+        put16(j->source, at, 12);
+        put32(j->source, at + 4, (uint32_t)(16 + 12 * groups));
+        put32(j->source, at + 12, (uint32_t)groups);
+    }
+    for (size_t g = 0; g < GROUPS; g++) {
+        put32(j->source, first + 12 * g + 4, 65534);
+        put32(j->source, first + 12 * g + 8, 1);
+    }
+    j->source_count = first + 12 * GROUPS;
+    for (size_t k = 0; k < records; k++)
+        put_record(j->source, k, 3, k ? 10 : 1, base + 24 * k);
+}
+
+/* 64 format 4 subtables that lie over one another, each 16 bytes behind the one before: most segments of each hold all points */
+static void segment_windows(job *j, size_t records)
+{
+    enum { SEGMENTS = 8180 };
+    header(j, records);
+    lent(j, 32767, 0, 2, 65535, 0);
+    size_t base = 4 + 8 * 64, ends = base + 14, starts = ends + 2 * SEGMENTS + 2 + 16 * 63, offsets = base + 16 + 6 * SEGMENTS;
+    for (size_t p = ends; p < starts; p += 2)
+        put16(j->source, p, 0xFFFE);
+    for (size_t p = base + 16 + 4 * SEGMENTS; p < offsets; p += 2)
+        put16(j->source, p, 1);
+    for (size_t p = offsets; p < base + 16 * 64 + 65534; p += 2)
+        put16(j->source, p, 2 + 2 * below(32000));
+    for (size_t k = 0; k < 64; k++) {
+        size_t at = base + 16 * k;
+        put16(j->source, at, 4);
+        put16(j->source, at + 2, 65534);
+        put16(j->source, at + 4, 0);
+        put16(j->source, at + 6, 2 * SEGMENTS);
+        put16(j->source, at + 16 + 6 * SEGMENTS + 2 * (SEGMENTS - 1), 0);
+    }
+    j->source_count = base + 16 * 64 + 65534;
+    for (size_t k = 0; k < records; k++)
+        put_record(j->source, k, 3, 1, base + 16 * k);
+}
+
+/* 63 small format 12 subtables, whose sibling (3,1) is a format 4 of 8,180 segments over all points */
+static void segments_as_sibling_of_many(job *j, size_t records)
+{
+    segments_as_sibling(j, records);
+    uint32_t start = 0, end = 65534, glyph = 1;
+    for (size_t k = 1; k < records; k++) {
+        put_record(j->source, k, 3, 10, j->source_count);
+        j->source_count += put_format12(j->source, j->source_count, &start, &end, &glyph, 1);
+    }
+}
+
 /* ---- format 14 */
 
 /* Record 0 is (3,1) with one segment; records 1 and up are (0,5) to a format 14 at the place that is returned. */
@@ -244,65 +303,19 @@ static void equal_tables(job *j, size_t selectors)
     end14(j, at, off);
 }
 
-static uint32_t mix(uint32_t sum, uint32_t byte) { return sum * 16777619u + byte; }
-
-/* the checksum of 16 single points, a bit for each of the 32 points from base on */
-static uint32_t sum_of(uint32_t base, uint32_t bits)
-{
-    uint32_t sum = 0;
-    for (uint32_t k = 0; k < 32; k++)
-        if (bits >> k & 1) {
-            uint32_t c = base + k;
-            sum = mix(mix(mix(mix(sum, c >> 16), c >> 8 & 255), c & 255), 0);
-        }
-    return sum;
-}
-
-/* two unlike choices of 16 of the 32 points from base on that have one checksum: found among many at random */
-static void two_of_one_sum(uint32_t base, uint32_t *one, uint32_t *other)
-{
-    enum { SLOTS = 1 << 22 };
-    static uint32_t slot[SLOTS];
-    memset(slot, 0, sizeof slot);
-    for (;;) {
-        uint32_t bits = below(0xFFFFFFFF);
-        if (__builtin_popcount(bits) != 16)
-            continue;
-        uint32_t sum = sum_of(base, bits), *p = &slot[sum % SLOTS];
-        if (*p && *p != bits && sum_of(base, *p) == sum) {
-            *one = *p;
-            *other = bits;
-            return;
-        }
-        *p = bits;
-    }
-}
-
-/* 512 default tables, all unlike, of one length and one checksum: nine blocks in two choices each, behind 87,000 points that all have in common */
-static void one_checksum(job *j, size_t selectors)
+/* 512 default tables of one length, alike but for one of 512 points behind 87,000 that all have in common */
+static void alike_to_the_end(job *j, size_t selectors)
 {
     kept14(j, selectors);
-    static uint32_t choice[9][2];
-    uint32_t base = 90000;
-    for (uint32_t b = 0; b < 9 && !choice[b][0]; b++)
-        two_of_one_sum(base + 32 * b, &choice[b][0], &choice[b][1]);
     size_t at = begin14(j, 2, selectors), off = 10 + 11 * selectors;
     for (size_t i = 0; i < selectors; i++) {
         tables_of(j, at, i, off, 0);
-        size_t p = at + off, n = 0;
-        for (; n < 340; n++) {
-            put24(j->source, p + 4 + 4 * n, (uint32_t)(256 * n));
-            j->source[p + 7 + 4 * n] = 255;
+        put32(j->source, at + off, 341);
+        for (size_t n = 0; n < 341; n++) {
+            put24(j->source, at + off + 4 + 4 * n, (uint32_t)(n < 340 ? 256 * n : 90000 + i));
+            j->source[at + off + 7 + 4 * n] = n < 340 ? 255 : 0;
         }
-        for (uint32_t b = 0; b < 9; b++)
-            for (uint32_t k = 0; k < 32; k++)
-                if (choice[b][i >> b & 1] >> k & 1) {
-                    put24(j->source, p + 4 + 4 * n, base + 32 * b + k);
-                    j->source[p + 7 + 4 * n] = 0;
-                    n++;
-                }
-        put32(j->source, p, (uint32_t)n);
-        off += 4 + 4 * n;
+        off += 4 + 4 * 341;
     }
     end14(j, at, off);
 }
@@ -326,68 +339,21 @@ static void long_windows(job *j, size_t selectors)
     end14(j, at, from - at + 4 * RANGES);
 }
 
-static uint32_t mix_mapping(uint32_t sum, uint32_t c, uint32_t g)
-{
-    return mix(mix(mix(mix(mix(sum, c >> 16), c >> 8 & 255), c & 255), g >> 8), g & 255);
-}
-
-static uint32_t power(uint32_t n)
-{
-    uint32_t p = 1;
-    while (n-- > 0)
-        p *= 16777619u;
-    return p;
-}
-
-/* a mapping of a kept point whose checksum is that number, if there is one */
-static int mapping_of_sum(uint32_t sum, uint32_t *c, uint32_t *g)
-{
-    for (*c = 0; *c < KEPT_MAX - 512; (*c)++) {
-        uint32_t rest = sum - mix_mapping(0, *c, 0), high = rest >> 24, low = (rest & 0xFFFFFF) - 403 * high;
-        *g = high << 8 | low;
-        if (low < 256 && *g < 65535)
-            return 1;
-    }
-    return 0;
-}
-
-/* 512 non-default tables of 200,704 mappings that lie over one another in the source, all unlike, of one length and one checksum. They begin
- * alike and go on so to almost their end. Each begins two mappings behind the one before, and a table's count is part of such a mapping:
- * all of these are U+0003 to glyph 0x1000. At the end each table has two mappings more, found so that the checksum stays. */
-static void one_checksum_windows(job *j, size_t selectors)
+/* 512 non-default tables of 200,704 mappings in no order that lie over one another in the source. Each begins two mappings behind the one
+ * before, and a table's count is part of such a mapping: these are U+0003 to glyph 0x1000. */
+static void mapping_windows(job *j, size_t selectors)
 {
     enum { COUNT = 0x31000 };
     kept14(j, selectors);
-    size_t at = begin14(j, 2, selectors), off = 10 + 11 * selectors, grid = at + off + 4;
+    size_t at = begin14(j, 2, selectors), off = 10 + 11 * selectors, grid = at + off + 4, all = COUNT + 2 * selectors;
     put32(j->source, at + off, COUNT);
-    for (size_t k = 0; k < COUNT; k++) {
-        put24(j->source, grid + 5 * k, 3);
-        put16(j->source, grid + 5 * k + 3, 0x1000);
+    for (size_t k = 0; k < all; k++) {
+        put24(j->source, grid + 5 * k, k < 2 * selectors ? 3 : below(2 * KEPT_MAX));
+        put16(j->source, grid + 5 * k + 3, k < 2 * selectors ? 0x1000 : below(65534));
     }
-    uint32_t five = power(5), whole = 0, end = 0;
-    for (size_t k = 0; k < COUNT; k++)
-        whole = mix_mapping(whole, 3, 0x1000);
-    size_t last = COUNT;
-    tables_of(j, at, 0, 0, off);
-    for (size_t i = 1; i < selectors; i++) {
+    for (size_t i = 0; i < selectors; i++)
         tables_of(j, at, i, 0, off + 10 * i);
-        uint32_t front = 0, shift = 1, c, g, one, other;
-        for (size_t k = 0; k < COUNT - 2 * i; k++)
-            front = mix_mapping(front, 3, 0x1000);
-        for (size_t k = 0; k < 2 * i; k++)
-            shift *= five;
-        do {
-            one = below(65536);
-            other = below(65535);
-        } while (!mapping_of_sum(whole - front * shift - mix_mapping(end, one, other) * five, &c, &g));
-        end = mix_mapping(mix_mapping(end, one, other), c, g);
-        put24(j->source, grid + 5 * last, one);
-        put16(j->source, grid + 5 * last + 3, other);
-        put24(j->source, grid + 5 * last + 5, c);
-        put16(j->source, grid + 5 * last + 8, g);
-        last += 2;
-    }
-    end14(j, at, off + 4 + 5 * last);
+    end14(j, at, off + 4 + 5 * all);
 }
 
 /* 512 unlike default tables that each hold 129,000 kept points, one record a point: a result of 265 million bytes */
@@ -449,16 +415,19 @@ static const struct {
 } cases[] = {
     {"format 12 groups that all hold the same 65,535 points", groups_over_all, "groups", 87000, 1, 64, 1 << 24},
     {"such groups, records to be found covered", groups_and_siblings, "records", 64, 1, 32, 1 << 24},
+    {"such groups in subtables that share bytes, records to be found covered", group_windows, "records", 64, 1, 32, 1 << 24},
     {"format 4 segments that all hold 65,535 points", segments_over_all, "segments", 8180, 1, 64, 1 << 24},
     {"such segments, records too long", segments_too_long, "records", 64, 1, 32, 1 << 24},
+    {"such segments in subtables that share bytes, records too long", segment_windows, "records", 64, 1, 32, 1 << 24},
     {"such segments, sibling of records to be found covered", segments_as_sibling, "records", 64, 1, 32, 1 << 24},
+    {"such segments, sibling of unlike records to be found covered", segments_as_sibling_of_many, "records", 64, 1, 32, 1 << 24},
     {"kept points in ranges many times", ranges_many_times, "ranges", 258000, 1, 64, 1 << 24},
     {"selectors that share 258,000 ranges", shared_ranges, "selectors", 512, 1, 256, 1 << 24},
     {"selectors that share 206,000 mappings", shared_mappings, "selectors", 512, 1, 256, 1 << 24},
     {"unlike tables of one length", unlike_tables, "selectors", 512, 2, 64, 1 << 24},
     {"equal tables at different places", equal_tables, "selectors", 512, 1, 64, 1 << 24},
-    {"unlike tables of one length and checksum", one_checksum, "selectors", 512, 2, 64, (size_t)280 << 20},
-    {"unlike tables of one length and checksum, 200,704 mappings that share bytes", one_checksum_windows, "selectors", 512, 2, 256, 1 << 24},
+    {"unlike tables of one length, alike to their end", alike_to_the_end, "selectors", 512, 1, 64, (size_t)280 << 20},
+    {"tables of 200,704 mappings that share bytes", mapping_windows, "selectors", 512, 1, 256, (size_t)280 << 20},
     {"tables of 257,000 ranges that share bytes", long_windows, "selectors", 512, 1, 256, 1 << 24},
     {"result too long for the output", huge_result, "selectors", 512, 1, 64, 1 << 24},
     {"the same result, with room", huge_result, "selectors", 512, 1, 64, (size_t)280 << 20},
