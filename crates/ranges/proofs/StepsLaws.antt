@@ -8,13 +8,14 @@ use lib.Seq.{drop-cons}
 use mathlib.Core.Path.{_≡_, sym, _∙_, ap}
 use mathlib.Core.Bool.{Bool, true, false}
 use lib.Dec.{lit≤}
+use borrow.Author.Tests.{eq-eqb, ne-eqb}
 use Rattle.laws.specs.Choice.{pick}
 use Rattle.laws.specs.Lists.{pairs}
 use Rattle.ranges.specs.declared.RangeState.{RangeState}
 use Rattle.ranges.specs.declared.Segment.{Segment}
 use Rattle.ranges.specs.declared.Committed.{Committed}
 use Rattle.ranges.specs.declared.Finished.{Finished}
-use Rattle.ranges.specs.Steps.{costOf, cutFrom, step, finish, toList, entries}
+use Rattle.ranges.specs.Steps.{begun, turned, costOf, pays, commit, absorbed, step, finish, toList, cutFrom, entries}
 use Rattle.ranges.specs.Cutting.{closing, entriesOf}
 
 pick-small : (t : Bool) → (1 ≤ pick t 16 8) × (pick t 16 8 ≤ 16)
@@ -23,6 +24,20 @@ pick-small false = (lit≤ tt, lit≤ tt)
 
 pub cost-small : (s : RangeState) → (1 ≤ costOf s) × (costOf s ≤ 16)
 cost-small s = pick-small (s .later)
+
+-- ---- a pair that commits: it ends the run, which pays, or the range
+module _ (s u : RangeState) (c g cost : ℕ) (o : Committed) (r : s .running ≡ true) (k : o ≡ commit s cost) where
+  -- x is what the code found as the cost, and b whether the run pays it
+  pub run-ends : (x : ℕ) (b : Bool) → c ≡ s .end + 1 → (g ≡ s .glyph + 1 → ⊥) → x ≡ costOf s → b ≡ pays s x → b ≡ true → cost ≡ x → u ≡ turned s c c g
+      → absorbed u o ≡ step s c g
+  unfolding step
+  run-ends x b p q e y t d n =
+      let pay : pays s (costOf s) ≡ true = rw (← e) (sym y ∙ t) in
+      rw (n, k, d, e, eq-eqb c (s .end + 1) p, ne-eqb g (s .glyph + 1) q, pay, r)
+
+  pub range-ends : (c ≡ s .end + 1 → ⊥) → cost ≡ 8 → u ≡ begun c g → absorbed u o ≡ step s c g
+  unfolding step
+  range-ends p e n = rw (n, k, e, ne-eqb c (s .end + 1) p, r)
 
 pub entries-append : (a b : List Segment) → entries (a ++ b) ≡ entries a + entries b
 entries-append [] b = sym (zero-add (entries b))

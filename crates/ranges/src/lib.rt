@@ -183,11 +183,13 @@ impl RangeState {
         })
     }
 
-    // Takes one pair in.
+    // Takes one pair in. What is committed is made in one place, so that the whole is small enough to be compiled into a walk.
     pub fn absorb(self, c: u16, g: u16) -> Absorbed
         ensures { λ r. ⌜ r ≡ step self c g ⌝ }
     {
         if self.running {
+            let mut next = RangeState::begin(c, g);
+            let mut cost = RangeState::FIRST_COST;
             if c as u32 == self.end as u32 + 1 {
                 if g as u32 == self.glyph as u32 + 1 {
                     return Absorbed {
@@ -195,21 +197,19 @@ impl RangeState {
                         out: Committed::None,
                     };
                 }
-                let cost = self.cost();
+                cost = self.cost();
                 if self.run_pays(cost) {
+                    next = self.turn(c, c, g);
+                } else {
                     return Absorbed {
-                        state: self.turn(c, c, g),
-                        out: self.commit_current_range(cost),
+                        state: self.turn(self.start, c, g),
+                        out: Committed::None,
                     };
                 }
-                return Absorbed {
-                    state: self.turn(self.start, c, g),
-                    out: Committed::None,
-                };
             }
             return Absorbed {
-                state: RangeState::begin(c, g),
-                out: self.commit_current_range(RangeState::FIRST_COST),
+                state: next,
+                out: self.commit_current_range(cost),
             };
         }
         Absorbed {
