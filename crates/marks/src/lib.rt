@@ -228,7 +228,7 @@ fn set_all(flags: &mut [u8], low: usize, high: usize)
 }
 
 // The same, with no loop for one flag: most stretches of a walk hold one of the points, or none.
-fn set_flags(flags: &mut [u8], low: usize, high: usize)
+pub fn set_flags(flags: &mut [u8], low: usize, high: usize)
     requires { ⌜ high ≤ length (now flags) ⌝ }
     ensures { λ _. ⌜ now (flags .exit) ≡ sets (now (flags .entry)) low (replicate (high - low) 1) ⌝ }
 {
