@@ -191,6 +191,9 @@ fn mark_stretch(
     if stretch.end < stretch.start {
         return near;
     }
+    if marks::is_passed(points, stretch.start, stretch.end, near) {
+        return near;
+    }
     let span = marks::span_near(points, stretch.start, stretch.end, near);
     set_span(flags, full, span.low, span.high);
     span.high

@@ -16,8 +16,8 @@ use Rattle.laws.proofs.ChoiceLaws.{by-leb}
 use Rattle.laws.proofs.RisingLaws.{rising-tail}
 use Rattle.laws.proofs.FrontLaws.{sets-front, sets-over}
 use Rattle.laws.proofs.SetsLaws.{getD-sets-in}
-use Rattle.marks.specs.Marks.{between, below, flagOf, flagged, painted, kept, Bound, Flags, Cleared, Places}
-use Rattle.marks.proofs.BelowLaws.{below-tail}
+use Rattle.marks.specs.Marks.{between, below, passed, flagOf, flagged, painted, kept, Bound, Flags, Cleared, Places}
+use Rattle.marks.proofs.BelowLaws.{below-tail, passed-none}
 
 -- ---- painted, store by store
 
@@ -61,6 +61,13 @@ painted-stores v a e (x ∷ xs) (f ∷ fs) r h =
     let y = below-tail (e + 1) r (omega arith) in
     let k : b - suc s ≡ b - s = omega arith in
     rw (lt-ltb x a p, lt-leb a x p, le-ltb x (e + 1) (omega arith), k) (stores-suc v x xs (b - s) s f fs ∙ ap (λ (l : List ℕ). f ∷ l) ih)))
+
+-- a stretch that is passed holds nothing to paint
+pub painted-passed : (a e near : ℕ) (v : ℕ → Bool) (b : Bool) (ps fs : List ℕ) → Flags ps fs → b ≡ passed ps a e near → b ≡ true → fs ≡ painted (between a e) v ps fs
+unfolding stores
+painted-passed a e near v b ps fs k q h =
+    let m : below ps (e + 1) - below ps a ≡ 0 = omega (arith, passed-none ps a e near b q h) in
+    rw m at (painted-stores v a e ps fs (k .rising) (k .beside))
 
 -- where no point passes, nothing is painted
 pub painted-none : (p v : ℕ → Bool) → ((c : ℕ) → p c ≡ false) → (ps fs : List ℕ) → painted p v ps fs ≡ fs
