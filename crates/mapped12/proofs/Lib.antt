@@ -1,1 +1,2 @@
 pub mod Mapped12Laws
+pub mod BlocksLaws

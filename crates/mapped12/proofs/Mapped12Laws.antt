@@ -2,18 +2,30 @@
 use Prim.Native.Nat.{ℕ, _+_, _<_, _≤_}
 use mathlib.Core.Path.{_≡_, sym}
 use mathlib.Core.List.{List}
-use mathlib.Core.Bool.{true}
+use mathlib.Core.Bool.{true, false}
 use native.Mathlib.Numerals.{add-one}
 use native.Mathlib.Omega.{arith}
 use lib.ListN.{length}
 use lib.Seq.{sets}
+use borrow.Author.Tests.{le-leb, lt-leb}
 use Rattle.laws.specs.Choice.{pick}
 use Rattle.laws.specs.Search.{some}
+use Rattle.laws.proofs.ChoiceLaws.{by-leb}
 use Rattle.laws.proofs.SomeLaws.{some-snoc}
 use Rattle.marks.specs.Marks.{between, flagged, marked, Flags, Cleared}
-use Rattle.marks.proofs.MarksLaws.{Saying, saying-none, saying-on}
+use Rattle.marks.proofs.MarksLaws.{Saying, saying-none, saying-on, painted-none}
 use Rattle.mapped12.specs.declared.Stretch.{Stretch}
 use Rattle.mapped12.specs.Mapped12.{group12, stretchHolds, among12, maps12}
+
+-- where the end is below the start there is nothing to mark
+pub marked-nothing : (t : Stretch) (ps fs : List ℕ) → t .end < t .start → fs ≡ marked (stretchHolds t) ps fs
+marked-nothing t ps fs h = sym (painted-none (stretchHolds t) (λ c. true) outside ps fs)
+  where
+    outside : (c : ℕ) → stretchHolds t c ≡ false
+    outside c =
+        by-leb (stretchHolds t c ≡ false) (t .start) c
+        (λ (l : t .start ≤ c). rw (le-leb (t .start) c l, lt-leb c (t .end) (omega arith)))
+        (λ (l : c < t .start). rw (lt-leb (t .start) c l))
 
 module _ (xs : List ℕ) (at groups n : ℕ) where
   among-on : (g c : ℕ) (t : Stretch) → t ≡ group12 xs at n g → pick (stretchHolds t c) true (among12 xs at n g c) ≡ among12 xs at n (g + 1) c

@@ -1,1 +1,2 @@
 pub mod Mapped12
+pub mod Blocks

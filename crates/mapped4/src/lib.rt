@@ -4,7 +4,7 @@ ghost use Prim.Native.Nat.{_+_, _*_, _≤_, _<_};
 ghost use lib.ListN.{length};
 ghost use lib.Seq.{sets};
 ghost use Rattle.laws.specs.Choice.{pick};
-ghost use Rattle.marks.specs.Marks.{flagged, flagOf, painted, Bound, Flags, Inside, Cleared};
+ghost use Rattle.marks.specs.Marks.{flagged, flagOf, painted, Flags, Inside, Cleared};
 ghost use Rattle.source.specs.Room.{Room4};
 ghost use Rattle.mapped4.specs.Mapped4.{Read4, entry4, says4, holds4, maps4};
 
@@ -128,8 +128,8 @@ fn flag_of(mapped: bool) -> u8
     0
 }
 
-// Segment i's word on the points that it holds, written over what earlier segments said; how many points are at most its end.
-// The walk hands that number on as `near`, where the next segment's points most likely begin.
+// Segment i's word on the points that it holds, written over what earlier segments said; where the next segment's points most likely
+// begin, which the walk hands on as `near`.
 fn mark_segment(
     s: &[u8],
     at: usize,
@@ -145,9 +145,11 @@ fn mark_segment(
     requires { ⌜ Read4 (now s) at segs i segment ⌝ }
     requires { ⌜ i < segs ⌝ }
     requires { ⌜ Flags (now points) (now flags) ⌝ }
-    ensures { λ r. ⌜ Bound (now (points .entry)) (segment .end + 1) r ⌝ }
     ensures { λ _. ⌜ now (flags .exit) ≡ painted (holds4 segment) (says4 (now (s .entry)) at segs len i segment) (now (points .entry)) (now (flags .entry)) ⌝ }
 {
+    if marks::is_passed(points, segment.start, segment.end, near) {
+        return near;
+    }
     let span = marks::span_near(points, segment.start, segment.end, near);
     let mut j = span.low;
     while j < span.high {

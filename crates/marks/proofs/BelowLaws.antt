@@ -9,11 +9,11 @@ use lib.Dec.{ltb, leb, eqb}
 use lib.ListN.{length, getD}
 use borrow.Author.Tests.{lt-ltb, le-ltb, le-leb, lt-leb, eq-eqb, ne-eqb, leb-true, leb-false, eqb-true}
 use Rattle.laws.specs.Lists.{Rising}
-use Rattle.laws.proofs.ChoiceLaws.{by-pick, by-leb}
+use Rattle.laws.proofs.ChoiceLaws.{by-pick, by-leb, both-left, both-right}
 use Rattle.laws.proofs.EitherLaws.{either-none}
 use Rattle.laws.proofs.RisingLaws.{rising-tail}
 use Rattle.laws.proofs.FrontLaws.{rising-above}
-use Rattle.marks.specs.Marks.{below, holds, Bound, Inside, Halving, AtLeast}
+use Rattle.marks.specs.Marks.{below, passed, holds, Bound, Inside, Halving, AtLeast}
 
 -- ---- below
 
@@ -145,6 +145,29 @@ module _ (ps : List ℕ) (c i : ℕ) where
   count-is b q e =
       let l = eqb-true i (below ps c) (sym q ∙ e) in
       record { is = l; within = omega (arith, below-within ps c) }
+
+module _ (ps : List ℕ) (start end near : ℕ) where
+  pub passed-not : length ps < near → false ≡ passed ps start end near
+  unfolding passed
+  passed-not h = rw (lt-leb near (below ps start) (omega (arith, below-within ps start)))
+
+  pub passed-short : (a : Bool) → a ≡ leb near (below ps start) → a ≡ false → false ≡ passed ps start end near
+  unfolding passed
+  passed-short a q e = rw (← q, e)
+
+  pub passed-told : (a b : Bool) → a ≡ leb near (below ps start) → a ≡ true → b ≡ leb (below ps (end + 1)) near → b ≡ passed ps start end near
+  unfolding passed
+  passed-told a b q e d = rw (← q, e) d
+
+  pub passed-none : (b : Bool) → b ≡ passed ps start end near → b ≡ true → below ps (end + 1) ≤ below ps start
+  unfolding passed
+  passed-none b q e =
+      let t = sym q ∙ e in
+      let l = leb-true near (below ps start) (both-left (leb near (below ps start)) (leb (below ps (end + 1)) near) t) in
+      let m = leb-true (below ps (end + 1)) near (both-right (leb near (below ps start)) (leb (below ps (end + 1)) near) t) in
+      omega arith
+
+pub ruleset passing = (passed-not, passed-short, passed-told)
 
 pub ruleset counted = (reaches-last, reaches-none, suffices-next, suffices-end, count-over, count-short, count-told, count-is)
 

@@ -3,7 +3,7 @@ use Prim.Native.Nat.{ℕ, zero, suc, _+_, _-_, _<_, _≤_}
 use mathlib.Core.Path.{_≡_, refl, sym, ap, _∙_}
 use mathlib.Core.List.{List, [], _∷_, _++_}
 use mathlib.Core.Bool.{Bool, true, false}
-use native.Mathlib.Nat.{not-suc-le-zero, zero-add, sub-zero}
+use native.Mathlib.Nat.{not-suc-le-zero, zero-add, add-zero, suc-add, add-suc, sub-zero}
 use native.Mathlib.Numerals.{add-one}
 use native.Mathlib.Omega.{arith}
 use lib.Dec.{eqb}
@@ -16,8 +16,8 @@ use Rattle.laws.proofs.ChoiceLaws.{by-leb}
 use Rattle.laws.proofs.RisingLaws.{rising-tail}
 use Rattle.laws.proofs.FrontLaws.{sets-front, sets-over}
 use Rattle.laws.proofs.SetsLaws.{getD-sets-in}
-use Rattle.marks.specs.Marks.{between, below, flagOf, flagged, painted, kept, Bound, Flags, Cleared, Places}
-use Rattle.marks.proofs.BelowLaws.{below-tail}
+use Rattle.marks.specs.Marks.{between, below, passed, flagOf, flagged, painted, kept, Bound, Flags, Cleared, Places}
+use Rattle.marks.proofs.BelowLaws.{below-tail, passed-none}
 
 -- ---- painted, store by store
 
@@ -61,6 +61,20 @@ painted-stores v a e (x ∷ xs) (f ∷ fs) r h =
     let y = below-tail (e + 1) r (omega arith) in
     let k : b - suc s ≡ b - s = omega arith in
     rw (lt-ltb x a p, lt-leb a x p, le-ltb x (e + 1) (omega arith), k) (stores-suc v x xs (b - s) s f fs ∙ ap (λ (l : List ℕ). f ∷ l) ih)))
+
+-- a stretch that is passed holds nothing to paint
+pub painted-passed : (a e near : ℕ) (v : ℕ → Bool) (b : Bool) (ps fs : List ℕ) → Flags ps fs → b ≡ passed ps a e near → b ≡ true → fs ≡ painted (between a e) v ps fs
+unfolding stores
+painted-passed a e near v b ps fs k q h =
+    let m : below ps (e + 1) - below ps a ≡ 0 = omega (arith, passed-none ps a e near b q h) in
+    rw m at (painted-stores v a e ps fs (k .rising) (k .beside))
+
+-- where no point passes, nothing is painted
+pub painted-none : (p v : ℕ → Bool) → ((c : ℕ) → p c ≡ false) → (ps fs : List ℕ) → painted p v ps fs ≡ fs
+unfolding painted
+painted-none p v h [] fs = refl
+painted-none p v h (c ∷ cs) [] = refl
+painted-none p v h (c ∷ cs) (f ∷ fs) = rw (h c, painted-none p v h cs fs)
 
 -- the flags up to i are painted: what is left, from here, gives the whole
 pub record Painting (v : ℕ → Bool) (ps fs₀ fs : List ℕ) (low high i : ℕ) : Type 0 where
@@ -187,6 +201,22 @@ pub filling-front : {v : ℕ} {fs₀ fs : List ℕ} {n i : ℕ} → Filling v fs
 filling-front {n = n} l h = rw (sub-zero n) at (filling-done l h)
 
 pub ruleset filling = (filling-start, filling-on, filling-done, filling-front)
+
+-- a part filled by a call
+filled-parts : (v k m i : ℕ) (fs : List ℕ) → sets fs i (replicate (k + m) v) ≡ sets (sets fs i (replicate k v)) (i + k) (replicate m v)
+filled-parts v zero m i fs = rw (zero-add m, add-zero i)
+filled-parts v (suc k) m i fs = rw (suc-add k m, add-suc i k) (rw (suc-add i k) at (filled-parts v k m (suc i) (set fs i v)))
+
+pub filling-part : {v : ℕ} {fs₀ fs : List ℕ} {low high i : ℕ} (l : Filling v fs₀ fs low high i) (fs′ : List ℕ) (j : ℕ) → i ≤ j → j ≤ high
+    → fs′ ≡ sets fs i (replicate (j - i) v) → Filling v fs₀ fs′ low high j
+filling-part {v} {fs₀} {fs} {low} {high} {i} l fs′ j h k e =
+    let m : high - i ≡ (j - i) + (high - j) = omega arith in
+    let s : i + (j - i) ≡ j = omega arith in
+    record {
+      from = omega (arith, l .from);
+      left = rw (e) (rw (m, filled-parts v (j - i) (high - j) i fs, s) at (l .left));
+      same = rw (e) (length-sets fs i (replicate (j - i) v)) ∙ l .same;
+    }
 
 -- the first of the flags by itself
 module _ (v : ℕ) (fs : List ℕ) (low high : ℕ) where

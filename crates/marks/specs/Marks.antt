@@ -1,5 +1,5 @@
 -- Flags beside a rising list of points, flag i for point i: 0 says no, anything else yes.
-use Prim.Native.Nat.{ℕ, suc, _≤_}
+use Prim.Native.Nat.{ℕ, suc, _+_, _≤_}
 use mathlib.Core.Path.{_≡_}
 use mathlib.Core.List.{List, [], _∷_}
 use mathlib.Core.Bool.{Bool, true, false}
@@ -21,6 +21,10 @@ pub record Inside (start end c : ℕ) : Type 0 where
 unfoldable pub below : List ℕ → ℕ → ℕ
 below [] c = 0
 below (x ∷ xs) c = let r = below xs c in pick (ltb x c) (suc r) r
+
+-- whether near of the numbers are below start, and no more are at most end
+unfoldable pub passed : List ℕ → ℕ → ℕ → ℕ → Bool
+passed ps start end near = both (leb near (below ps start)) (leb (below ps (end + 1)) near)
 
 -- whether c is one of the numbers
 unfoldable pub holds : List ℕ → ℕ → Bool

@@ -5,7 +5,7 @@ ghost use lib.Dec.{leb, eqb};
 ghost use lib.ListN.{length, replicate};
 ghost use lib.Seq.{sets};
 ghost use Rattle.laws.specs.Lists.{Rising};
-ghost use Rattle.marks.specs.Marks.{between, below, holds, marked, kept, Bound, Halving, AtLeast, Flags, Places};
+ghost use Rattle.marks.specs.Marks.{between, below, passed, holds, marked, kept, Bound, Halving, AtLeast, Flags, Places};
 
 // The bound may be one past the greatest u32.
 fn halve(points: &[u32], c: u64, from: usize, upto: usize) -> usize
@@ -136,6 +136,20 @@ fn count_upto(points: &[u32], start: u32, end: u32, low: usize) -> usize
     count_near(points, past, low)
 }
 
+// Whether near points are below start, and no more are at most end: then the stretch holds none of them, as most stretches of a walk do.
+pub fn is_passed(points: &[u32], start: u32, end: u32, near: usize) -> bool
+    requires { ⌜ Rising (now points) ⌝ }
+    ensures { λ r. ⌜ r ≡ passed (now (points .entry)) start end near ⌝ }
+{
+    if points.len() < near {
+        return false;
+    }
+    if reaches(points, start as u64, near) {
+        return suffices(points, end as u64 + 1, near);
+    }
+    false
+}
+
 // The places of the points of a stretch: from low on, up to high.
 pub struct Span {
     pub low: usize,
@@ -228,7 +242,7 @@ fn set_all(flags: &mut [u8], low: usize, high: usize)
 }
 
 // The same, with no loop for one flag: most stretches of a walk hold one of the points, or none.
-fn set_flags(flags: &mut [u8], low: usize, high: usize)
+pub fn set_flags(flags: &mut [u8], low: usize, high: usize)
     requires { ⌜ high ≤ length (now flags) ⌝ }
     ensures { λ _. ⌜ now (flags .exit) ≡ sets (now (flags .entry)) low (replicate (high - low) 1) ⌝ }
 {

@@ -1,51 +1,17 @@
--- After g groups the flags say what those groups map.
+-- Nothing is noted at first.
+use Rattle.mapped12.proofs.BlocksLaws.{full-none}
 use borrow.Author.Needs.{needs}
-use Prim.Native.Nat.{_-_}
-use Rattle.mapped12.proofs.Mapped12Laws.{Marking, marking}
 use Rattle.mapped12.proofs.mark_groups.Statement.{statement}
 use Rattle.mapped12.proofs.mark_groups.Tie as tie
 
-abbrev Inv-loop : tie.InvT-loop
-Inv-loop s at groups n points flags₀ near₀ g₀ flags near g = Marking s at groups n points flags₀ flags g
+mark-groups-by-requires : tie.Need-mark-groups-by-requires
+mark-groups-by-requires c κs = (search needs, (search needs, (search needs, (search needs, full-none 512 _))))
 
-abbrev μ-loop : tie.MeasureT-loop
-μ-loop s at groups n points flags₀ near₀ g₀ flags near g = groups - g
-
-loop-holds : tie.Need-loop-holds Inv-loop μ-loop
-loop-holds c = search marking
-
-group-at-requires : tie.Need-group-at-requires Inv-loop μ-loop
-group-at-requires c κs = search needs
-
-mark-points-near-requires : tie.Need-mark-points-near-requires Inv-loop μ-loop
-mark-points-near-requires c κs = search needs
-
-add-g : tie.Need-add-g Inv-loop μ-loop
-add-g c = search needs
-
-loop-less : tie.Need-loop-less Inv-loop μ-loop
-loop-less c = search needs
-
-loop-again : tie.Need-loop-again Inv-loop μ-loop
-loop-again c = search marking
-
-same-length : tie.Need-same-length Inv-loop μ-loop
+same-length : tie.Need-same-length
 same-length c = search needs
 
-returns : tie.Need-returns Inv-loop μ-loop
-returns c = search marking
+returns : tie.Need-returns
+returns c = search needs
 
 pub mark-groups-spec : {M : Type 1} → statement M
-mark-groups-spec =
-    tie.close
-    (tie.spec
-    Inv-loop
-    μ-loop
-    loop-holds
-    group-at-requires
-    mark-points-near-requires
-    add-g
-    loop-less
-    loop-again
-    same-length
-    returns)
+mark-groups-spec = tie.close (tie.spec mark-groups-by-requires same-length returns)

@@ -2,7 +2,7 @@
 use borrow.Author.Needs.{needs}
 use Prim.Native.Nat.{_-_}
 use Rattle.marks.proofs.BelowLaws.{inside}
-use Rattle.marks.proofs.MarksLaws.{Painting, painting}
+use Rattle.marks.proofs.MarksLaws.{Painting, painting, painted-passed}
 use Rattle.mapped4.specs.Mapped4.{says4}
 use Rattle.mapped4.proofs.mark_segment.Statement.{statement}
 use Rattle.mapped4.proofs.mark_segment.Tie as tie
@@ -12,6 +12,12 @@ Inv-loop s at segs len i segment points flags₀ near span j₀ flags j = Painti
 
 abbrev μ-loop : tie.MeasureT-loop
 μ-loop s at segs len i segment points flags₀ near span j₀ flags j = span .high - j
+
+is-passed-requires : tie.Need-is-passed-requires Inv-loop μ-loop
+is-passed-requires c κs = search needs
+
+returns : tie.Need-returns Inv-loop μ-loop
+returns c = search painted-passed
 
 span-near-requires : tie.Need-span-near-requires Inv-loop μ-loop
 span-near-requires c κs = search needs
@@ -46,8 +52,8 @@ loop-again c = search painting
 same-length : tie.Need-same-length Inv-loop μ-loop
 same-length c = search needs
 
-returns : tie.Need-returns Inv-loop μ-loop
-returns c = (search needs, search painting)
+returns-2 : tie.Need-returns-2 Inv-loop μ-loop
+returns-2 c = search painting
 
 pub mark-segment-spec : {M : Type 1} → statement M
 mark-segment-spec =
@@ -55,6 +61,8 @@ mark-segment-spec =
     (tie.spec
     Inv-loop
     μ-loop
+    is-passed-requires
+    returns
     span-near-requires
     loop-holds
     mul-c
@@ -66,4 +74,4 @@ mark-segment-spec =
     loop-less
     loop-again
     same-length
-    returns)
+    returns-2)
