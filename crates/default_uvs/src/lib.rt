@@ -122,7 +122,7 @@ pub fn next_range(kept: &[u32], flags: &[u8], i: usize, most: u32) -> UnicodeRan
 }
 
 // A checksum with one record more.
-fn mix_range(sum: u32, start: u32, additional: u32) -> u32
+fn mix_range(sum: u64, start: u32, additional: u32) -> u64
     ensures { λ r. ⌜ r ≡ mixed sum (rangeBytes (start, additional)) ⌝ }
 {
     uvs::mix_byte(uvs::mix_u24(sum, start), additional)
@@ -131,7 +131,7 @@ fn mix_range(sum: u32, start: u32, additional: u32) -> u32
 // How many records there are, and a checksum of them.
 struct RecordsMeasure {
     count: usize,
-    sum: u32,
+    sum: u64,
 }
 
 // Both in one walk.
@@ -192,7 +192,7 @@ pub fn prepare(flags: &mut [u8], s: &[u8], p: usize, kept: &[u32]) -> u32
 // How long a new table is, 0 where there is none, and a checksum of its bytes.
 pub struct DefaultMeasure {
     pub size: usize,
-    pub sum: u32,
+    pub sum: u64,
 }
 
 pub fn measure_default(s: &[u8], p: usize, kept: &[u32], flags: &mut [u8]) -> DefaultMeasure

@@ -1,42 +1,100 @@
 -- The loops over the tables: refusal 8 asked record by record, lengths and checksums taken one by one, tables written from the last to the first.
-use Prim.Native.Nat.{ℕ, _+_, _-_, _*_, _<_, _≤_}
-use mathlib.Core.Path.{_≡_, refl, sym, _∙_}
+use Prim.Native.Nat.{ℕ, zero, suc, _+_, _-_, _*_, _/_, _%_, _<_, _≤_}
+use mathlib.Core.Path.{_≡_, refl, sym, ap, _∙_}
 use mathlib.Core.List.{List}
 use mathlib.Core.Bool.{Bool, true, false}
+use native.Mathlib.Nat.{add-zero}
+use native.Mathlib.Numerals.{add-one}
 use native.Mathlib.Omega.{arith}
 use lib.ListN.{length, getD, set, length-set, length-append}
 use lib.Seq.{sets, length-sets, getD-set-same, getD-set-other}
+use Rattle.laws.specs.Choice.{either}
 use Rattle.laws.specs.Pieces.{concat}
 use Rattle.laws.specs.Search.{some}
 use Rattle.laws.specs.Select.{eqList}
 use Rattle.laws.specs.Lasts.{lasts, behind}
-use Rattle.laws.proofs.ChoiceLaws.{by-leb}
+use Rattle.laws.proofs.ChoiceLaws.{by-leb, by-test}
+use Rattle.laws.proofs.EitherLaws.{either-none}
 use Rattle.laws.proofs.LastsLaws.{behind-le, eqList-length}
-use Rattle.laws.proofs.SearchLaws.{Asking, asking-start, asking-on, asking-yes, asking-no}
 use Rattle.laws.proofs.SelectLaws.{any-select}
 use Rattle.laws.proofs.SetsCommLaws.{sets-before}
-use Rattle.number.specs.BigEndian.{be, Num}
+use Rattle.number.specs.BigEndian.{be}
 use Rattle.uvs.specs.Checksum.{checksum}
 use Rattle.uvs.proofs.ChecksumLaws.{sums-apart}
-use Rattle.selector_tables.specs.Selectors.{Given, selectorRecords, keepsSelector, badRecord, badKept}
-use Rattle.selector_tables.specs.ByNumber.{slot, Size, Both, tableMax}
+use Rattle.selector_tables.specs.Selectors.{Given, given, keepsSelector, badRecord, badKept}
+use Rattle.selector_tables.specs.ByNumber.{slot, badSlot, Source, Readable, Size, Both, tableMax}
+use Rattle.selector_tables.proofs.ByNumberLaws.{slot-like, bad-like}
 use Rattle.format14.specs.Format14.{refused8}
-use Rattle.format14.specs.Ends.{from, Written, Lengths, Sums, Ends, All, Stops, endsAt}
+use Rattle.format14.specs.Ends.{from, Written, Lengths, Sums, Sources, Earlier, Refused, Ends, All, Stops, endsAt}
 use Rattle.format14.proofs.SlotsLaws.{written-turn, written-still, behind-turn}
 
 -- ---- refusal 8
 
-module _ (g : Given) (n k : ℕ) (q : Num 4 (g .source) (g .start + 6) n) where
-  refused-all : some (badKept g) n 0 ≡ refused8 g
-  refused-all = rw (q .is) (any-select (badRecord g) (keepsSelector g) (λ i. i) (selectorRecords g) 0)
+either-true : (b : Bool) → either b true ≡ true
+either-true true = refl
+either-true false = refl
 
-  pub refused-yes : (b : Bool) → Asking (badKept g) n k → k < n → b ≡ badKept g k → b ≡ true → true ≡ refused8 g
-  refused-yes b a h e t = asking-yes (badKept g) n k b a h e t ∙ refused-all
+module _ (p : ℕ → Bool) where
+  -- one place more at the end
+  some-last : (t i : ℕ) → some p (suc t) i ≡ either (some p t i) (p (i + t))
+  unfolding some
+  some-last zero i = rw (add-zero i) (either-none (p i))
+  some-last (suc t) i =
+      let next : i + 1 + t ≡ i + suc t = omega arith in
+      rw (some-last t (i + 1), next) (assoc (p i) (some p t (i + 1)) (p (i + suc t)))
+    where
+      assoc : (a b c : Bool) → either a (either b c) ≡ either (either a b) c
+      assoc true b c = refl
+      assoc false b c = refl
 
-  pub refused-no : Asking (badKept g) n k → n ≤ k → false ≡ refused8 g
-  refused-no a h = asking-no (badKept g) n k a h ∙ refused-all
+  some-has : (t u i : ℕ) → u < t → p (i + u) ≡ true → some p t i ≡ true
+  unfolding some
+  some-has zero u i h e = absurd (omega arith)
+  some-has (suc t) zero i h e =
+      let here : p i ≡ true = rw (add-zero i) at e in
+      rw here
+  some-has (suc t) (suc u) i h e =
+      let next : i + suc u ≡ i + 1 + u = omega arith in
+      rw (some-has t u (i + 1) (omega arith) (rw next at e)) (either-true (p i))
 
-pub ruleset refusing = (asking-start, asking-on, refused-yes, refused-no)
+-- the tables of n records from k on, asked in place of the records
+refused-pairs : (g : Given) (n k : ℕ) → some (badSlot g) (2 * n) (2 * k) ≡ some (badKept g) n k
+unfolding some badSlot
+refused-pairs g zero k = refl
+refused-pairs g (suc n) k =
+    let two : 2 * suc n ≡ suc (suc (2 * n)) = omega arith in
+    let even : 2 * k % 2 ≡ 0 = omega arith in
+    let odd : (2 * k + 1) % 2 ≡ 1 = omega arith in
+    let half : (2 * k + 1) / 2 ≡ k = omega arith in
+    let next : 2 * k + 1 + 1 ≡ 2 * (k + 1) = omega arith in
+    rw (two, even, odd, half, next, refused-pairs g n (k + 1))
+
+module _ (g : Given) where
+  pub refused-start : Refused g 0 false
+  unfolding some
+  refused-start = record { is = refl }
+
+  module _ (t : ℕ) (b : Bool) (r : Refused g t b) where
+    more : some (badSlot g) (t + 1) 0 ≡ either b (badSlot g t)
+    more =
+        let z : 0 + t ≡ t = omega arith in
+        rw (add-one t, some-last (badSlot g) t 0, z, ← r .is)
+
+    pub refused-bad : (d : Bool) → d ≡ badSlot g t → d ≡ true → Refused g (t + 1) true
+    refused-bad d e y = record { is = sym (more ∙ rw (← e, y) (either-true b)) }
+
+    pub refused-good : (d : Bool) → d ≡ badSlot g t → d ≡ false → Refused g (t + 1) b
+    refused-good d e n = record { is = sym (more ∙ rw (← e, n) (either-none b)) }
+
+    -- a table like an earlier one says nothing new
+    refused-like : (u : ℕ) → u < t → badSlot g u ≡ badSlot g t → Refused g (t + 1) b
+    refused-like u h e =
+        by-test (Refused g (t + 1) b) (badSlot g t)
+        (λ y.
+        let z : 0 + u ≡ u = omega arith in
+        let all : b ≡ true = r .is ∙ some-has (badSlot g) t u 0 h (rw z (e ∙ y)) in
+        record { is = sym (more ∙ rw all) })
+        (λ n. refused-good false (sym n) refl)
 
 -- ---- lengths and checksums
 
@@ -85,7 +143,59 @@ module _ (f : ℕ → List ℕ) (m t : ℕ) (ls ss : List ℕ) (p : Measuring f 
   pub measured-sums : Sums f m ss
   measured-sums = record { room = p .also; each = λ j l. p .sums j (omega arith) }
 
+-- those before t
+module _ (f : ℕ → List ℕ) (m t : ℕ) (ls ss : List ℕ) (p : Measuring f m t ls ss) where
+  pub lengths-before : Lengths f t ls
+  lengths-before = record { room = omega (arith, p .within, p .room); each = p .each; small = p .small }
+
+  pub sums-before : Sums f t ss
+  sums-before = record { room = omega (arith, p .within, p .also); each = p .sums }
+
+module _ (xs : List ℕ) (at len : ℕ) (kept : List ℕ) (ps : List ℕ) where
+  pub sources-start : Sources xs at len kept 0 ps
+  sources-start = record { room = omega arith; each = λ j l. absurd (omega arith) }
+
+  pub sources-on : (t off : ℕ) → Sources xs at len kept t ps → t < length ps → Source xs at len kept t off → Sources xs at len kept (t + 1) (set ps t off)
+  sources-on t off q h s = record { room = rw length-set (omega arith); each = set-each (Source xs at len kept) ps t off h (q .each) s }
+
+-- all tables are asked
+pub refused-all : (xs : List ℕ) (at len : ℕ) (kept map requested flags others : List ℕ) (m t : ℕ) (b : Bool) (ls ss : List ℕ) → All xs at kept flags m others
+    → Measuring (slot (given xs at len kept map requested)) m t ls ss → Refused (given xs at len kept map requested) t b → m ≤ t → b ≡ refused8 (given xs at len kept map requested)
+refused-all xs at len kept map requested flags others m t b ls ss a p r h =
+    let g = given xs at len kept map requested in
+    let n = be 4 xs (at + 6) in
+    let two : t ≡ 2 * n = omega (arith, a .is, p .within) in
+    let z : 2 * 0 ≡ 0 = omega arith in
+    r .is ∙ rw two (rw z at (refused-pairs g n 0)) ∙ any-select (badRecord g) (keepsSelector g) (λ i. i) n 0
+
 pub ruleset measuring = (measuring-start, measuring-on, measured-lengths, measured-sums)
+
+pub ruleset before = (lengths-before, sums-before)
+
+pub ruleset sourcing = (sources-start, sources-on)
+
+-- a table from the place of an earlier one of its sort
+module _ (xs : List ℕ) (at len : ℕ) (kept map requested : List ℕ) (t off u : ℕ) (ps : List ℕ) (r : Readable xs at len kept requested) (s : Source xs at len kept t off)
+    (q : Sources xs at len kept t ps) (e : Earlier ps t off u) (h : u < t) where
+  abbrev like : Given
+  like = given xs at len kept map requested
+
+  source-like : Source xs at len kept u off
+  source-like = rw (e .place h) at (q .each u h)
+
+  pub size-like : (ls : List ℕ) → Lengths (slot like) t ls → Size like t (getD ls u 0)
+  size-like ls l = record {
+    is = l .each u h ∙ ap (λ (x : List ℕ). length x) (slot-like xs at len kept map requested u t off r source-like s (e .sort));
+    below = l .small u h;
+  }
+
+  pub sum-like : (ss : List ℕ) → Sums (slot like) t ss → getD ss u 0 ≡ checksum (slot like t)
+  sum-like ss l = l .each u h ∙ ap (λ (x : List ℕ). checksum x) (slot-like xs at len kept map requested u t off r source-like s (e .sort))
+
+  pub refused-same : (b : Bool) → Refused like t b → Refused like (t + 1) b
+  refused-same b d = refused-like like t b d u h (bad-like xs at len kept map requested u t off r source-like s (e .sort))
+
+pub ruleset refusing = (refused-start, refused-bad, refused-good, refused-same)
 
 -- ---- tables
 

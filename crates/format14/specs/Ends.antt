@@ -1,16 +1,17 @@
 -- Tables by number and their distances from the end of the subtable, as the code keeps them.
-use Prim.Native.Nat.{ℕ, zero, suc, _+_, _-_, _*_, _<_, _≤_}
+use Prim.Native.Nat.{ℕ, zero, suc, _+_, _-_, _*_, _%_, _<_, _≤_}
 use mathlib.Core.Path.{_≡_}
 use mathlib.Core.List.{List, [], _++_}
+use mathlib.Core.Bool.{Bool}
 use lib.ListN.{length, getD}
 use lib.Seq.{sets}
 use Rattle.laws.specs.Pieces.{concat}
-use Rattle.laws.specs.Search.{first}
+use Rattle.laws.specs.Search.{first, some}
 use Rattle.laws.specs.Select.{eqList}
 use Rattle.laws.specs.Lasts.{lasts, behind}
 use Rattle.number.specs.BigEndian.{be}
 use Rattle.uvs.specs.Checksum.{checksum}
-use Rattle.selector_tables.specs.ByNumber.{slot, tableMax}
+use Rattle.selector_tables.specs.ByNumber.{slot, badSlot, Source, tableMax}
 use Rattle.selector_tables.specs.Selectors.{Given, selectorRecords}
 use Rattle.selector_records.specs.SelectorRecords.{usedRecords}
 use Rattle.format14.specs.Format14.{one}
@@ -41,6 +42,21 @@ pub record Lengths (f : ℕ → List ℕ) (m : ℕ) (ls : List ℕ) : Type 0 whe
 pub record Sums (f : ℕ → List ℕ) (m : ℕ) (ss : List ℕ) : Type 0 where
   pub room : m ≤ length ss
   pub each : (j : ℕ) → j < m → getD ss j 0 ≡ checksum (f j)
+
+-- where the sources of t tables stand
+pub record Sources (xs : List ℕ) (at len : ℕ) (kept : List ℕ) (t : ℕ) (ps : List ℕ) : Type 0 where
+  pub room : t ≤ length ps
+  pub each : (j : ℕ) → j < t → Source xs at len kept j (getD ps j 0)
+
+-- r is t, or a table before it of its sort whose source stands at `off`
+pub record Earlier (ps : List ℕ) (t off r : ℕ) : Type 0 where
+  pub sort : r % 2 ≡ t % 2
+  pub within : r ≤ t
+  pub place : r < t → getD ps r 0 ≡ off
+
+-- whether one of the first t tables brings refusal 8
+pub record Refused (g : Given) (t : ℕ) (b : Bool) : Type 0 where
+  pub is : b ≡ some (badSlot g) t 0
 
 -- the distances of m tables from the end of the subtable; 0 for a missing one
 pub record Ends (f : ℕ → List ℕ) (m : ℕ) (ends : List ℕ) : Type 0 where

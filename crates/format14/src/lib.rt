@@ -6,10 +6,14 @@ ghost use lib.Seq.{sets};
 ghost use Rattle.laws.specs.Pieces.{concat};
 ghost use Rattle.laws.specs.Select.{eqList};
 ghost use Rattle.number.specs.BigEndian.{be};
+ghost use Rattle.uvs.specs.Checksum.{checksum};
 ghost use Rattle.selector_tables.specs.Selectors.{given};
-ghost use Rattle.selector_tables.specs.ByNumber.{slot, Readable, Numbered};
+ghost use Rattle.selector_tables.specs.ByNumber.{slot, Source, Readable, Numbered, Size};
 ghost use Rattle.format14.specs.Format14.{refused8, rows, lengthOf, format14, outcome, lengthIn};
-ghost use Rattle.format14.specs.Ends.{laterEqual, Written, Lengths, Sums, Ends, All, Stops, Total, Planned, endsAt};
+ghost use Rattle.format14.specs.Ends.{laterEqual, Written, Lengths, Sums, Sources, Earlier, Refused, Ends, All, Stops, Total, Planned, endsAt};
+
+// Work room that is enough for most jobs, and cleared in no time.
+const SMALL_KEPT: usize = 4096;
 
 // What becomes of a format 14 subtable: refusal 8, nothing left to write, or the length of the new one.
 pub enum Outcome {
@@ -18,23 +22,81 @@ pub enum Outcome {
     Length(usize),
 }
 
-// Refusal 8: whether some kept selector record has a mapping to be kept that names a missing glyph.
-fn refuses(s: &[u8], at: usize, len: usize, kept: &[u32], map: &[u16], requested: &[u16]) -> bool
-    requires { ⌜ Readable (now s) at len (now kept) (now requested) ⌝ }
-    ensures { λ r. ⌜ r ≡ refused8 (given (now (s .entry)) at len (now (kept .entry)) (now (map .entry)) (now (requested .entry))) ⌝ }
+// The last table before t, of t's sort, whose source stands at `off`; t if there is none.
+fn earlier(sources: &[usize], t: usize, off: usize) -> usize
+    requires { ⌜ t ≤ length (now sources) ⌝ }
+    ensures { λ r. ⌜ Earlier (now (sources .entry)) t off r ⌝ }
 {
-    let n = number::u32_at(s, at + 6) as usize;
-    let mut k = 0;
-    while k < n {
-        if selector_tables::bad_record(s, at, len, kept, map, requested, k) {
-            return true;
+    let mut u = t;
+    while 2 <= u {
+        u -= 2;
+        if sources[u] == off {
+            return u;
         }
-        k += 1;
     }
-    false
+    t
 }
 
-// The lengths and checksums of the m new tables. The flags are work room.
+// The length of a new table, a checksum of its bytes, and whether it or one before it brings refusal 8.
+struct Measured {
+    size: usize,
+    sum: u64,
+    refused: bool,
+}
+
+// The same of table t, whose source stands at `off`. A table from the place of an earlier one is like that one and not measured again.
+// The flags are work room.
+fn measure_one(
+    s: &[u8],
+    at: usize,
+    len: usize,
+    kept: &[u32],
+    map: &[u16],
+    requested: &[u16],
+    flags: &mut [u8],
+    lengths: &[usize],
+    sums: &[u64],
+    sources: &[usize],
+    t: usize,
+    off: usize,
+    refused: bool,
+) -> Measured
+    requires { ⌜ Readable (now s) at len (now kept) (now requested) ⌝ }
+    requires { ⌜ Numbered (now s) at (now kept) (now flags) t ⌝ }
+    requires { ⌜ Source (now s) at len (now kept) t off ⌝ }
+    requires { ⌜ Lengths (slot (given (now s) at len (now kept) (now map) (now requested))) t (now lengths) ⌝ }
+    requires { ⌜ Sums (slot (given (now s) at len (now kept) (now map) (now requested))) t (now sums) ⌝ }
+    requires { ⌜ Sources (now s) at len (now kept) t (now sources) ⌝ }
+    requires { ⌜ Refused (given (now s) at len (now kept) (now map) (now requested)) t refused ⌝ }
+    ensures { λ r. ⌜ Size (given (now (s .entry)) at len (now (kept .entry)) (now (map .entry)) (now (requested .entry))) t (r .size) ⌝ }
+    ensures { λ r. ⌜ r .sum ≡ checksum (slot (given (now (s .entry)) at len (now (kept .entry)) (now (map .entry)) (now (requested .entry))) t) ⌝ }
+    ensures { λ r. ⌜ Refused (given (now (s .entry)) at len (now (kept .entry)) (now (map .entry)) (now (requested .entry))) (t + 1) (r .refused) ⌝ }
+{
+    let u = earlier(sources, t, off);
+    if u < t {
+        return Measured {
+            size: lengths[u],
+            sum: sums[u],
+            refused: refused,
+        };
+    }
+    let table = selector_tables::measure_table(s, at, len, kept, map, requested, flags, t, off);
+    if table.bad {
+        return Measured {
+            size: table.size,
+            sum: table.sum,
+            refused: true,
+        };
+    }
+    Measured {
+        size: table.size,
+        sum: table.sum,
+        refused: refused,
+    }
+}
+
+// The lengths and checksums of the m new tables, and refusal 8: whether some kept selector record has a mapping to be kept that names a missing
+// glyph. The flags are work room, and the sources' places a row for this walk.
 fn measure(
     s: &[u8],
     at: usize,
@@ -44,22 +106,43 @@ fn measure(
     requested: &[u16],
     flags: &mut [u8],
     lengths: &mut [usize],
-    sums: &mut [u32],
+    sums: &mut [u64],
+    sources: &mut [usize],
     m: usize,
-)
+) -> bool
     requires { ⌜ Readable (now s) at len (now kept) (now requested) ⌝ }
     requires { ⌜ All (now s) at (now kept) (now flags) m (now flags) ⌝ }
-    requires { ⌜ (m ≤ length (now lengths)) × (m ≤ length (now sums)) ⌝ }
+    requires { ⌜ (m ≤ length (now lengths)) × ((m ≤ length (now sums)) × (m ≤ length (now sources))) ⌝ }
+    ensures { λ r. ⌜ r ≡ refused8 (given (now (s .entry)) at len (now (kept .entry)) (now (map .entry)) (now (requested .entry))) ⌝ }
     ensures { λ _. ⌜ Lengths (slot (given (now (s .entry)) at len (now (kept .entry)) (now (map .entry)) (now (requested .entry)))) m (now (lengths .exit)) ⌝ }
     ensures { λ _. ⌜ Sums (slot (given (now (s .entry)) at len (now (kept .entry)) (now (map .entry)) (now (requested .entry)))) m (now (sums .exit)) ⌝ }
 {
     let mut t = 0;
+    let mut refused = false;
     while t < m {
-        let table = selector_tables::measure_table(s, at, len, kept, map, requested, flags, t);
+        let off = selector_tables::source_table(s, at, len, kept, requested, t);
+        let table = measure_one(
+            s,
+            at,
+            len,
+            kept,
+            map,
+            requested,
+            flags,
+            lengths,
+            sums,
+            sources,
+            t,
+            off,
+            refused,
+        );
         lengths[t] = table.size;
         sums[t] = table.sum;
+        sources[t] = off;
+        refused = table.refused;
         t += 1;
     }
+    refused
 }
 
 // Whether tables t and j, the first of them there, are equal. Lengths and checksums rule most out. The flags are work room.
@@ -73,7 +156,7 @@ fn equal_tables(
     flags: &mut [u8],
     others: &mut [u8],
     lengths: &[usize],
-    sums: &[u32],
+    sums: &[u64],
     t: usize,
     j: usize,
 ) -> bool
@@ -105,7 +188,7 @@ fn later_equal(
     flags: &mut [u8],
     others: &mut [u8],
     lengths: &[usize],
-    sums: &[u32],
+    sums: &[u64],
     m: usize,
     t: usize,
 ) -> usize
@@ -151,7 +234,7 @@ fn place_tables(
     flags: &mut [u8],
     others: &mut [u8],
     lengths: &[usize],
-    sums: &[u32],
+    sums: &[u64],
     ends: &mut [usize],
     m: usize,
 ) -> usize
@@ -239,6 +322,12 @@ fn copy_var_selector_record_uvs_tables(
     }
 }
 
+// The length of all tables that are written, and refusal 8.
+struct LaidOut {
+    tail: usize,
+    refused: bool,
+}
+
 // Measures the m tables, then places them. The flags are work room.
 fn lay_out(
     s: &[u8],
@@ -251,16 +340,18 @@ fn lay_out(
     others: &mut [u8],
     ends: &mut [usize],
     m: usize,
-) -> usize
+) -> LaidOut
     requires { ⌜ Readable (now s) at len (now kept) (now requested) ⌝ }
     requires { ⌜ All (now s) at (now kept) (now flags) m (now others) ⌝ }
     requires { ⌜ m ≤ length (now ends) ⌝ }
+    ensures { λ r. ⌜ r .refused ≡ refused8 (given (now (s .entry)) at len (now (kept .entry)) (now (map .entry)) (now (requested .entry))) ⌝ }
     ensures { λ _. ⌜ Ends (slot (given (now (s .entry)) at len (now (kept .entry)) (now (map .entry)) (now (requested .entry)))) m (now (ends .exit)) ⌝ }
-    ensures { λ r. ⌜ Total (slot (given (now (s .entry)) at len (now (kept .entry)) (now (map .entry)) (now (requested .entry)))) m r ⌝ }
+    ensures { λ r. ⌜ Total (slot (given (now (s .entry)) at len (now (kept .entry)) (now (map .entry)) (now (requested .entry)))) m (r .tail) ⌝ }
 {
     let mut lengths = [0usize; 1024];
-    let mut sums = [0u32; 1024];
-    measure(
+    let mut sums = [0u64; 1024];
+    let mut sources = [0usize; 1024];
+    let refused = measure(
         s,
         at,
         len,
@@ -270,9 +361,10 @@ fn lay_out(
         flags,
         &mut lengths,
         &mut sums,
+        &mut sources,
         m,
     );
-    place_tables(
+    let tail = place_tables(
         s,
         at,
         len,
@@ -285,13 +377,105 @@ fn lay_out(
         &sums,
         ends,
         m,
+    );
+    LaidOut {
+        tail: tail,
+        refused: refused,
+    }
+}
+
+fn lay_out_in_full_room(
+    s: &[u8],
+    at: usize,
+    len: usize,
+    kept: &[u32],
+    map: &[u16],
+    requested: &[u16],
+    ends: &mut [usize],
+    m: usize,
+) -> LaidOut
+    requires { ⌜ Readable (now s) at len (now kept) (now requested) ⌝ }
+    requires { ⌜ (m ≡ 2 * be 4 (now s) (at + 6)) × (m ≤ length (now ends)) ⌝ }
+    ensures { λ r. ⌜ r .refused ≡ refused8 (given (now (s .entry)) at len (now (kept .entry)) (now (map .entry)) (now (requested .entry))) ⌝ }
+    ensures { λ _. ⌜ Ends (slot (given (now (s .entry)) at len (now (kept .entry)) (now (map .entry)) (now (requested .entry)))) m (now (ends .exit)) ⌝ }
+    ensures { λ r. ⌜ Total (slot (given (now (s .entry)) at len (now (kept .entry)) (now (map .entry)) (now (requested .entry)))) m (r .tail) ⌝ }
+{
+    let mut flags = [0u8; 131072];
+    let mut others = [0u8; 131072];
+    lay_out(
+        s,
+        at,
+        len,
+        kept,
+        map,
+        requested,
+        &mut flags,
+        &mut others,
+        ends,
+        m,
     )
 }
 
-// How many selector records have a table, and the length of the whole subtable.
+fn lay_out_in_small_room(
+    s: &[u8],
+    at: usize,
+    len: usize,
+    kept: &[u32],
+    map: &[u16],
+    requested: &[u16],
+    ends: &mut [usize],
+    m: usize,
+) -> LaidOut
+    requires { ⌜ Readable (now s) at len (now kept) (now requested) ⌝ }
+    requires { ⌜ (m ≡ 2 * be 4 (now s) (at + 6)) × ((m ≤ length (now ends)) × (length (now kept) ≤ 4096)) ⌝ }
+    ensures { λ r. ⌜ r .refused ≡ refused8 (given (now (s .entry)) at len (now (kept .entry)) (now (map .entry)) (now (requested .entry))) ⌝ }
+    ensures { λ _. ⌜ Ends (slot (given (now (s .entry)) at len (now (kept .entry)) (now (map .entry)) (now (requested .entry)))) m (now (ends .exit)) ⌝ }
+    ensures { λ r. ⌜ Total (slot (given (now (s .entry)) at len (now (kept .entry)) (now (map .entry)) (now (requested .entry)))) m (r .tail) ⌝ }
+{
+    let mut flags = [0u8; SMALL_KEPT];
+    let mut others = [0u8; SMALL_KEPT];
+    lay_out(
+        s,
+        at,
+        len,
+        kept,
+        map,
+        requested,
+        &mut flags,
+        &mut others,
+        ends,
+        m,
+    )
+}
+
+// The same in work room that is enough for the kept points.
+fn lay_out_in_room(
+    s: &[u8],
+    at: usize,
+    len: usize,
+    kept: &[u32],
+    map: &[u16],
+    requested: &[u16],
+    ends: &mut [usize],
+    m: usize,
+) -> LaidOut
+    requires { ⌜ Readable (now s) at len (now kept) (now requested) ⌝ }
+    requires { ⌜ (m ≡ 2 * be 4 (now s) (at + 6)) × (m ≤ length (now ends)) ⌝ }
+    ensures { λ r. ⌜ r .refused ≡ refused8 (given (now (s .entry)) at len (now (kept .entry)) (now (map .entry)) (now (requested .entry))) ⌝ }
+    ensures { λ _. ⌜ Ends (slot (given (now (s .entry)) at len (now (kept .entry)) (now (map .entry)) (now (requested .entry)))) m (now (ends .exit)) ⌝ }
+    ensures { λ r. ⌜ Total (slot (given (now (s .entry)) at len (now (kept .entry)) (now (map .entry)) (now (requested .entry)))) m (r .tail) ⌝ }
+{
+    if SMALL_KEPT < kept.len() {
+        return lay_out_in_full_room(s, at, len, kept, map, requested, ends, m);
+    }
+    lay_out_in_small_room(s, at, len, kept, map, requested, ends, m)
+}
+
+// How many selector records have a table, the length of the whole subtable, and refusal 8.
 pub struct Plan {
     pub count: usize,
     pub total: usize,
+    pub refused: bool,
 }
 
 // Finds where each of the 2n tables stands.
@@ -307,26 +491,16 @@ fn plan_tables(
 ) -> Plan
     requires { ⌜ Readable (now s) at len (now kept) (now requested) ⌝ }
     requires { ⌜ (n ≡ be 4 (now s) (at + 6)) × (1024 ≤ length (now ends)) ⌝ }
+    ensures { λ r. ⌜ r .refused ≡ refused8 (given (now (s .entry)) at len (now (kept .entry)) (now (map .entry)) (now (requested .entry))) ⌝ }
     ensures { λ r. ⌜ Planned (given (now (s .entry)) at len (now (kept .entry)) (now (map .entry)) (now (requested .entry))) n (now (ends .exit)) (r .count) (r .total) ⌝ }
 {
-    let mut flags = [0u8; 131072];
-    let mut others = [0u8; 131072];
-    let tail = lay_out(
-        s,
-        at,
-        len,
-        kept,
-        map,
-        requested,
-        &mut flags,
-        &mut others,
-        ends,
-        2 * n,
-    );
+    let tables = lay_out_in_room(s, at, len, kept, map, requested, ends, 2 * n);
+    let tail = tables.tail;
     let count = selector_records::count_records(ends, n);
     Plan {
         count: count,
         total: 10 + 11 * count + tail,
+        refused: tables.refused,
     }
 }
 
@@ -343,17 +517,111 @@ pub fn size(
     ensures { λ r. ⌜ r ≡ outcome (given (now (s .entry)) at len (now (kept .entry)) (now (map .entry)) (now (requested .entry))) ⌝ }
     ensures { λ r. ⌜ lengthIn r < 4294967296 ⌝ }
 {
-    if refuses(s, at, len, kept, map, requested) {
-        return Outcome::Refused8;
-    }
     let mut ends = [0usize; 1024];
     let n = number::u32_at(s, at + 6) as usize;
     let plan = plan_tables(s, at, len, kept, map, requested, &mut ends, n);
+    if plan.refused {
+        return Outcome::Refused8;
+    }
     let count = plan.count;
     if count == 0 {
         return Outcome::Empty;
     }
     Outcome::Length(plan.total)
+}
+
+fn copy_tables_in_full_room(
+    out: &mut [u8],
+    stop: usize,
+    s: &[u8],
+    at: usize,
+    len: usize,
+    kept: &[u32],
+    map: &[u16],
+    requested: &[u16],
+    ends: &[usize],
+    m: usize,
+)
+    requires { ⌜ Readable (now s) at len (now kept) (now requested) ⌝ }
+    requires { ⌜ m ≡ 2 * be 4 (now s) (at + 6) ⌝ }
+    requires { ⌜ Ends (slot (given (now s) at len (now kept) (now map) (now requested))) m (now ends) ⌝ }
+    requires { ⌜ Stops (slot (given (now s) at len (now kept) (now map) (now requested))) m stop (now out) ⌝ }
+    ensures { λ _. ⌜ now (out .exit) ≡ endsAt stop (now (out .entry)) (concat (Written (slot (given (now (s .entry)) at len (now (kept .entry)) (now (map .entry)) (now (requested .entry)))) m 0)) ⌝ }
+{
+    let mut flags = [0u8; 131072];
+    copy_var_selector_record_uvs_tables(
+        out,
+        stop,
+        s,
+        at,
+        len,
+        kept,
+        map,
+        requested,
+        &mut flags,
+        ends,
+        m,
+    );
+}
+
+fn copy_tables_in_small_room(
+    out: &mut [u8],
+    stop: usize,
+    s: &[u8],
+    at: usize,
+    len: usize,
+    kept: &[u32],
+    map: &[u16],
+    requested: &[u16],
+    ends: &[usize],
+    m: usize,
+)
+    requires { ⌜ Readable (now s) at len (now kept) (now requested) ⌝ }
+    requires { ⌜ (m ≡ 2 * be 4 (now s) (at + 6)) × (length (now kept) ≤ 4096) ⌝ }
+    requires { ⌜ Ends (slot (given (now s) at len (now kept) (now map) (now requested))) m (now ends) ⌝ }
+    requires { ⌜ Stops (slot (given (now s) at len (now kept) (now map) (now requested))) m stop (now out) ⌝ }
+    ensures { λ _. ⌜ now (out .exit) ≡ endsAt stop (now (out .entry)) (concat (Written (slot (given (now (s .entry)) at len (now (kept .entry)) (now (map .entry)) (now (requested .entry)))) m 0)) ⌝ }
+{
+    let mut flags = [0u8; SMALL_KEPT];
+    copy_var_selector_record_uvs_tables(
+        out,
+        stop,
+        s,
+        at,
+        len,
+        kept,
+        map,
+        requested,
+        &mut flags,
+        ends,
+        m,
+    );
+}
+
+// The same in work room that is enough for the kept points.
+fn copy_tables_in_room(
+    out: &mut [u8],
+    stop: usize,
+    s: &[u8],
+    at: usize,
+    len: usize,
+    kept: &[u32],
+    map: &[u16],
+    requested: &[u16],
+    ends: &[usize],
+    m: usize,
+)
+    requires { ⌜ Readable (now s) at len (now kept) (now requested) ⌝ }
+    requires { ⌜ m ≡ 2 * be 4 (now s) (at + 6) ⌝ }
+    requires { ⌜ Ends (slot (given (now s) at len (now kept) (now map) (now requested))) m (now ends) ⌝ }
+    requires { ⌜ Stops (slot (given (now s) at len (now kept) (now map) (now requested))) m stop (now out) ⌝ }
+    ensures { λ _. ⌜ now (out .exit) ≡ endsAt stop (now (out .entry)) (concat (Written (slot (given (now (s .entry)) at len (now (kept .entry)) (now (map .entry)) (now (requested .entry)))) m 0)) ⌝ }
+{
+    if SMALL_KEPT < kept.len() {
+        copy_tables_in_full_room(out, stop, s, at, len, kept, map, requested, ends, m);
+        return;
+    }
+    copy_tables_in_small_room(out, stop, s, at, len, kept, map, requested, ends, m);
 }
 
 // Writes header, selector records and tables, planned before.
@@ -376,10 +644,9 @@ fn write_planned(
     requires { ⌜ place + total ≤ length (now out) ⌝ }
     ensures { λ _. ⌜ now (out .exit) ≡ sets (now (out .entry)) place (format14 (rows (given (now (s .entry)) at len (now (kept .entry)) (now (map .entry)) (now (requested .entry))))) ⌝ }
 {
-    let mut flags = [0u8; 131072];
     selector_records::put_header(out, place, total as u32, count as u32);
     selector_records::copy_records(out, place + 10, s, at, total, ends, n);
-    copy_var_selector_record_uvs_tables(
+    copy_tables_in_room(
         out,
         place + total,
         s,
@@ -388,7 +655,6 @@ fn write_planned(
         kept,
         map,
         requested,
-        &mut flags,
         ends,
         2 * n,
     );

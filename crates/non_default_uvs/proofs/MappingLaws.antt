@@ -4,7 +4,7 @@ use mathlib.Core.Path.{_≡_, refl, sym, _∙_}
 use mathlib.Core.List.{List, [], _∷_}
 use mathlib.Core.Bool.{Bool, true, false}
 use native.Mathlib.Omega.{arith}
-use borrow.Author.Tests.{lt-leb, le-leb}
+use borrow.Author.Tests.{lt-leb, le-leb, eq-eqb, ne-eqb}
 use lib.ListN.{length, getD, length-append, List·getD-eq-default}
 use lib.Dec.{eqb}
 use lib.Seq.{sets}
@@ -16,15 +16,15 @@ use Rattle.number.specs.BigEndian.{be, enc, put, Num}
 use Rattle.number.proofs.BigEndianLaws.{put-after, length-enc}
 use Rattle.number.specs.Limits.{absent}
 use Rattle.laws.specs.Lists.{Pair, Rising}
-use Rattle.laws.specs.Select.{flat}
-use Rattle.laws.specs.Search.{some}
-use Rattle.laws.proofs.SelectLaws.{any-select, Counting, counting-end, Copying, copying-start, copying-room, copying-yes, copying-no, copying-end}
-use Rattle.laws.proofs.SearchLaws.{Asking, asking-yes, asking-no}
+use Rattle.laws.specs.Select.{each, select, anyOf, flat}
+use Rattle.laws.specs.Choice.{either}
+use Rattle.laws.proofs.EitherLaws.{either-none}
+use Rattle.laws.proofs.SelectLaws.{each-all, select-yes, select-no, select-end, Counting, counting-end, Copying, copying-start, copying-room, copying-yes, copying-no, copying-end}
 use Rattle.uvs.specs.Checksum.{mixed, checksum}
 use Rattle.uvs.proofs.TablesLaws.{size-none, size-some}
 use Rattle.uvs.proofs.ChecksumLaws.{mix-both, checksum-table, Summing, summing-end}
 use Rattle.uvs.specs.NonDefault.{mapping, mappingAt, mappingBytes, keepsMapping, keptMappings, newNonDefault, missing, badMapping}
-use Rattle.non_default_uvs.specs.Lent.{Count, New, badAt}
+use Rattle.non_default_uvs.specs.Lent.{Count, New}
 
 -- ---- the kept points below a code point
 
@@ -75,31 +75,38 @@ missing-absent map g = by-leb (missing map g ≡ eqb (getD map g absent) absent)
     (λ h. rw (le-leb (length map) g h, List·getD-eq-default map absent h))
     (λ h. rw (lt-leb (length map) g h))
 
--- ---- one mapping
+-- ---- refusal 8 in a walk over the mappings
 
-module _ (xs : List ℕ) (p : ℕ) (kept map requested : List ℕ) (i : ℕ) (b : Bool) (e : b ≡ keepsMapping kept requested (mapping xs (p + 4 + 5 * i))) where
-  pub bad-not : b ≡ false → false ≡ badAt xs p kept map requested i
-  bad-not t = rw (← e, t)
+-- whether one passed or still to come, of those that stay, names a missing glyph is what is asked of all
+pub record Judging (xs : List ℕ) (p : ℕ) (kept map requested : List ℕ) (m i : ℕ) (bad : Bool) : Type 0 where
+  pub left : either bad (anyOf (λ q. missing map (q .1)) (select (keepsMapping kept requested) (each (mappingAt xs p) (m - i) i)))
+      ≡ anyOf (λ q. missing map (q .1)) (select (keepsMapping kept requested) (each (mappingAt xs p) m 0))
 
-  pub bad-looked : b ≡ true → (g n : ℕ) → Num 2 xs (p + 4 + 5 * i + 3) g → New map g n → eqb n absent ≡ badAt xs p kept map requested i
-  bad-looked t g n m d = rw (← e, t, missing-absent map (be 2 xs (p + 4 + 5 * i + 3)), ← m .is, d .is)
+module _ (xs : List ℕ) (p : ℕ) (kept map requested : List ℕ) (m : ℕ) where
+  pub judging-start : Judging xs p kept map requested m 0 false
+  judging-start = record { left = rw (each-all (mappingAt xs p) m 0) }
 
-pub ruleset bad-rules = (bad-not, bad-looked)
+  module _ (i : ℕ) (bad b : Bool) (l : Judging xs p kept map requested m i bad) (h : i < m) (e : b ≡ keepsMapping kept requested (mappingAt xs p i)) where
+    pub judging-yes : b ≡ true → (next : Bool) → next ≡ either bad (missing map (mappingAt xs p i .1)) → Judging xs p kept map requested m (i + 1) next
+    unfolding anyOf
+    judging-yes t next d = record {
+      left =
+          rw (d, either-assoc bad (missing map (mappingAt xs p i .1)) (anyOf (λ q. missing map (q .1)) (select (keepsMapping kept requested) (each (mappingAt xs p) (m - (i + 1)) (i + 1)))))
+          (rw (select-yes (keepsMapping kept requested) (mappingAt xs p) m i h (sym e ∙ t)) at (l .left));
+    }
+      where
+        either-assoc : (a b c : Bool) → either (either a b) c ≡ either a (either b c)
+        either-assoc true b c = refl
+        either-assoc false b c = refl
 
--- ---- the whole table, its m mappings asked one by one
+    pub judging-no : b ≡ false → Judging xs p kept map requested m (i + 1) bad
+    judging-no t = record { left = rw (select-no (keepsMapping kept requested) (mappingAt xs p) m i h (sym e ∙ t)) at (l .left) }
 
-module _ (xs : List ℕ) (p : ℕ) (kept map requested : List ℕ) (m i : ℕ) (n : Num 4 xs p m) where
-  bad-all : some (badAt xs p kept map requested) m 0 ≡ badMapping xs p kept map requested
-  unfolding badMapping
-  bad-all = rw (n .is) (any-select (λ m. missing map (m .1)) (keepsMapping kept requested) (mappingAt xs p) (be 4 xs p) 0)
+  pub judging-end : (i : ℕ) (bad : Bool) → Num 4 xs p m → Judging xs p kept map requested m i bad → m ≤ i → bad ≡ badMapping xs p kept map requested
+  unfolding badMapping anyOf
+  judging-end i bad n l h = sym (either-none bad) ∙ rw (select-end (keepsMapping kept requested) (mappingAt xs p) m i h, n .is) at (l .left)
 
-  pub bad-found : (b : Bool) → Asking (badAt xs p kept map requested) m i → i < m → b ≡ badAt xs p kept map requested i → b ≡ true → true ≡ badMapping xs p kept map requested
-  bad-found b a h e t = asking-yes (badAt xs p kept map requested) m i b a h e t ∙ bad-all
-
-  pub bad-none : Asking (badAt xs p kept map requested) m i → m ≤ i → false ≡ badMapping xs p kept map requested
-  bad-none a h = asking-no (badAt xs p kept map requested) m i a h ∙ bad-all
-
-pub ruleset bad-table = (bad-found, bad-none)
+pub ruleset judging = (judging-start, judging-yes, judging-no, judging-end)
 
 pub count-all : (xs : List ℕ) (p : ℕ) (kept requested : List ℕ) (m i k : ℕ) → Num 4 xs p m → Counting (keepsMapping kept requested) (mappingAt xs p) m i k → m ≤ i
     → Count xs p kept requested k
@@ -112,6 +119,20 @@ count-all xs p kept requested m i k n l h = record {
 
 pub mapping-size : (map : List ℕ) (m : Pair) → length (mappingBytes map m) ≡ 5
 mapping-size map m = rw (length-append, length-enc 3 (m .0), length-enc 2 (getD map (m .1) absent))
+
+-- one mapping more
+module _ (xs : List ℕ) (place : ℕ) (map : List ℕ) (g n : ℕ) (hg : Num 2 xs (place + 3) g) (hn : New map g n) (bad : Bool) where
+  pub bad-one : n ≡ absent → true ≡ either bad (missing map (mapping xs place .1))
+  bad-one e = rw (missing-absent map (be 2 xs (place + 3)), ← hg .is, ← hn .is, eq-eqb n absent e) (sym (any bad))
+    where
+      any : (b : Bool) → either b true ≡ true
+      any true = refl
+      any false = refl
+
+  pub bad-same : (n ≡ absent → ⊥) → bad ≡ either bad (missing map (mapping xs place .1))
+  bad-same e = rw (missing-absent map (be 2 xs (place + 3)), ← hg .is, ← hn .is, ne-eqb n absent e) (sym (either-none bad))
+
+pub ruleset bads = (bad-one, bad-same)
 
 pub mix-is : (xs : List ℕ) (place : ℕ) (map : List ℕ) (sum c g n q r : ℕ) → Num 3 xs place c → Num 2 xs (place + 3) g → New map g n
     → q ≡ mixed sum (enc 3 c) → r ≡ mixed q (enc 2 n) → r ≡ mixed sum (mappingBytes map (mapping xs place))

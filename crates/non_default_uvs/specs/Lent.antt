@@ -1,14 +1,12 @@
--- What the functions of a non-default table are lent, the table at p inside the source and the lists in order, and what is asked of one mapping.
+-- What the functions of a non-default table are lent, the table at p inside the source and the lists in order.
 use Prim.Native.Nat.{ℕ, _+_, _*_, _^_, _<_, _≤_}
 use mathlib.Core.List.{List}
-use mathlib.Core.Bool.{Bool}
 use mathlib.Core.Path.{_≡_}
 use lib.ListN.{length, getD}
 use Rattle.laws.specs.Lists.{Rising}
 use Rattle.number.specs.BigEndian.{be}
 use Rattle.number.specs.Limits.{absent}
-use Rattle.laws.specs.Choice.{both}
-use Rattle.uvs.specs.NonDefault.{mappingAt, keepsMapping, keptMappings, missing}
+use Rattle.uvs.specs.NonDefault.{keptMappings}
 
 -- the mapping at p can be read, and looked up in the lists
 pub record Mapping (xs : List ℕ) (p : ℕ) (kept requested : List ℕ) : Type 0 where
@@ -32,7 +30,3 @@ pub record New (map : List ℕ) (g r : ℕ) : Type 0 where
 pub record Count (xs : List ℕ) (p : ℕ) (kept requested : List ℕ) (r : ℕ) : Type 0 where
   pub is : r ≡ length (keptMappings xs p kept requested)
   pub below : r < 256 ^ 4
-
--- mapping i is to be kept and names a glyph that the map misses
-abbrev pub badAt : List ℕ → ℕ → List ℕ → List ℕ → List ℕ → ℕ → Bool
-badAt xs p kept map requested i = both (keepsMapping kept requested (mappingAt xs p i)) (missing map (mappingAt xs p i .1))

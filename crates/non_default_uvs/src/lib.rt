@@ -1,15 +1,16 @@
-// The new non-default table of a selector record: whether it names a missing glyph, how long it is, a checksum, and its bytes.
+// The new non-default table of a selector record: how long it is, a checksum, whether it names a missing glyph, and its bytes.
 ghost use mathlib.Core.Path.{_≡_};
 ghost use Prim.Native.Nat.{_+_, _*_, _<_, _≤_};
 ghost use lib.ListN.{length};
 ghost use lib.Seq.{sets};
+ghost use Rattle.laws.specs.Choice.{either};
 ghost use Rattle.laws.specs.Lists.{Rising};
 ghost use Rattle.laws.specs.Select.{flat};
 ghost use Rattle.marks.specs.Marks.{holds, Bound};
 ghost use Rattle.number.specs.BigEndian.{be};
 ghost use Rattle.uvs.specs.Checksum.{mixed, checksum};
-ghost use Rattle.uvs.specs.NonDefault.{mapping, keepsMapping, keptMappings, mappingBytes, newNonDefault, badMapping};
-ghost use Rattle.non_default_uvs.specs.Lent.{Mapping, Table, New, Count, badAt};
+ghost use Rattle.uvs.specs.NonDefault.{mapping, keepsMapping, keptMappings, mappingBytes, newNonDefault, missing, badMapping};
+ghost use Rattle.non_default_uvs.specs.Lent.{Mapping, Table, New, Count};
 
 // How many kept points are below c; `near` itself is returned at once where it is still that number, and changes the time alone.
 fn count_at(kept: &[u32], c: u32, near: usize) -> usize
@@ -88,78 +89,42 @@ pub fn new_glyph(map: &[u16], old: u32) -> u16
     number::limits::NewGlyph::ABSENT
 }
 
-// Whether a mapping is bad, and from where the next one is looked for.
-struct Bad {
+// A checksum of mappings, and whether one of them names a glyph that the map misses.
+struct Mixed {
+    sum: u64,
     bad: bool,
-    near: usize,
 }
 
-// Whether mapping i is to be kept and names a glyph that the map misses.
-fn is_bad(
-    s: &[u8],
-    p: usize,
-    kept: &[u32],
-    map: &[u16],
-    requested: &[u16],
-    i: usize,
-    near: usize,
-) -> Bad
-    requires { ⌜ Mapping (now s) (p + 4 + 5 * i) (now kept) (now requested) ⌝ }
-    ensures { λ r. ⌜ r .bad ≡ badAt (now (s .entry)) p (now (kept .entry)) (now (map .entry)) (now (requested .entry)) i ⌝ }
-{
-    let place = p + 4 + 5 * i;
-    let looked = keeps_mapping(s, place, kept, requested, near);
-    if looked.stays {
-        let absent = new_glyph(map, number::u16_at(s, place + 3))
-            == number::limits::NewGlyph::ABSENT;
-        return Bad {
-            bad: absent,
-            near: looked.near,
-        };
-    }
-    Bad {
-        bad: false,
-        near: looked.near,
-    }
-}
-
-// Refusal 8: whether some mapping to be kept names a glyph that the map misses.
-pub fn bad_mapping(s: &[u8], p: usize, kept: &[u32], map: &[u16], requested: &[u16]) -> bool
-    requires { ⌜ Table (now s) p (now kept) (now requested) ⌝ }
-    ensures { λ r. ⌜ r ≡ badMapping (now (s .entry)) p (now (kept .entry)) (now (map .entry)) (now (requested .entry)) ⌝ }
-{
-    let m = number::u32_at(s, p) as usize;
-    let mut i = 0;
-    let mut near = 0;
-    while i < m {
-        let found = is_bad(s, p, kept, map, requested, i, near);
-        if found.bad {
-            return true;
-        }
-        near = found.near;
-        i += 1;
-    }
-    false
-}
-
-// A checksum with one mapping more: its code point and new glyph.
-fn mix_mapping(sum: u32, s: &[u8], place: usize, map: &[u16]) -> u32
+// The same with one mapping more, which is mixed in as its code point and new glyph.
+fn mix_mapping(sum: u64, bad: bool, s: &[u8], place: usize, map: &[u16]) -> Mixed
     requires { ⌜ place + 5 ≤ length (now s) ⌝ }
-    ensures { λ r. ⌜ r ≡ mixed sum (mappingBytes (now (map .entry)) (mapping (now (s .entry)) place)) ⌝ }
+    ensures { λ r. ⌜ r .sum ≡ mixed sum (mappingBytes (now (map .entry)) (mapping (now (s .entry)) place)) ⌝ }
+    ensures { λ r. ⌜ r .bad ≡ either bad (missing (now (map .entry)) (mapping (now (s .entry)) place .1)) ⌝ }
 {
     let c = number::u24_at(s, place);
     let old = number::u16_at(s, place + 3);
-    let new = new_glyph(map, old) as u32;
-    uvs::mix_u16(uvs::mix_u24(sum, c), new)
+    let new = new_glyph(map, old);
+    let longer = uvs::mix_u16(uvs::mix_u24(sum, c), new as u32);
+    if new == number::limits::NewGlyph::ABSENT {
+        return Mixed {
+            sum: longer,
+            bad: true,
+        };
+    }
+    Mixed {
+        sum: longer,
+        bad: bad,
+    }
 }
 
-// How long a new table is, 0 where there is none, and a checksum of its bytes.
+// How long a new table is, 0 where there is none, a checksum of its bytes, and refusal 8: whether a mapping to be kept names a missing glyph.
 pub struct NonDefaultMeasure {
     pub size: usize,
-    pub sum: u32,
+    pub sum: u64,
+    pub bad: bool,
 }
 
-// Both in one walk of the source's mappings.
+// All in one walk of the source's mappings.
 pub fn measure_non_default(
     s: &[u8],
     p: usize,
@@ -170,28 +135,37 @@ pub fn measure_non_default(
     requires { ⌜ Table (now s) p (now kept) (now requested) ⌝ }
     ensures { λ r. ⌜ r .size ≡ length (newNonDefault (now (s .entry)) p (now (kept .entry)) (now (map .entry)) (now (requested .entry))) ⌝ }
     ensures { λ r. ⌜ r .sum ≡ checksum (newNonDefault (now (s .entry)) p (now (kept .entry)) (now (map .entry)) (now (requested .entry))) ⌝ }
+    ensures { λ r. ⌜ r .bad ≡ badMapping (now (s .entry)) p (now (kept .entry)) (now (map .entry)) (now (requested .entry)) ⌝ }
 {
     let m = number::u32_at(s, p) as usize;
     let mut i = 0;
     let mut near = 0;
     let mut n = 0;
     let mut sum = 0;
+    let mut bad = false;
     while i < m {
         let from = p + 4 + 5 * i;
-        let found = keeps_mapping(s, from, kept, requested, near);
-        near = found.near;
+        let looked = keeps_mapping(s, from, kept, requested, near);
+        near = looked.near;
         i += 1;
-        if found.stays {
+        if looked.stays {
             n += 1;
-            sum = mix_mapping(sum, s, from, map);
+            let more = mix_mapping(sum, bad, s, from, map);
+            sum = more.sum;
+            bad = more.bad;
         }
     }
     if n == 0 {
-        return NonDefaultMeasure { size: 0, sum: sum };
+        return NonDefaultMeasure {
+            size: 0,
+            sum: sum,
+            bad: bad,
+        };
     }
     NonDefaultMeasure {
         size: 4 + 5 * n,
         sum: sum,
+        bad: bad,
     }
 }
 

@@ -24,7 +24,7 @@ use Rattle.default_uvs.specs.Stream.{Lent}
 use Rattle.non_default_uvs.specs.Lent.{Table}
 use Rattle.selector_tables.proofs.ShapeLaws.{length-default, length-non-default, tables-apart}
 use Rattle.selector_tables.specs.Selectors.{Given, given, keepsSelector, defaultTable, nonDefaultTable, badRecord, badKept}
-use Rattle.selector_tables.specs.ByNumber.{slot, tableOffset, sourceTable, Source, Readable, Numbered, Size, Both}
+use Rattle.selector_tables.specs.ByNumber.{slot, badSlot, tableOffset, sourceTable, Source, Readable, Numbered, Size, Both}
 
 -- ---- the size of a record of table t
 
@@ -205,6 +205,30 @@ module _ (xs : List ℕ) (at len : ℕ) (kept requested : List ℕ) (t off : ℕ
     pub sum-non-default : (n : ℕ) → (off ≡ 0 → ⊥) → (t % 2 ≡ 0 → ⊥) → n ≡ checksum (newNonDefault xs (at + off) kept map requested) → n ≡ checksum (slot g t)
     sum-non-default n z h d = rw (non-default-is z h) d
 
+    pub bad-none : off ≡ 0 → false ≡ badSlot g t
+    unfolding badSlot keepsSelector badRecord
+    bad-none z =
+        by-test (false ≡ badSlot g t) (eqb (t % 2) 0)
+        (λ q. rw q)
+        (λ q.
+        let odd : t % 2 ≡ 1 = odd-one (eqb-false (t % 2) 0 q) in
+        let h = holds kept (be 3 xs (at + 10 + 11 * (t / 2))) in
+        let o = be 4 xs (at + 10 + 11 * (t / 2) + 7) in
+        let no : both h (counts 5 xs at len o) ≡ false = rw (odd, offset-odd xs at len kept t odd) at (source-zero xs at len kept t off (s .is) z) in
+        rw q (sym (both-none h (counts 5 xs at len o) (badMapping xs (at + o) kept map requested) no)))
+
+    pub bad-default : t % 2 ≡ 0 → false ≡ badSlot g t
+    unfolding badSlot
+    bad-default e = rw (eq-eqb (t % 2) 0 e)
+
+    pub bad-non-default : (b : Bool) → (off ≡ 0 → ⊥) → (t % 2 ≡ 0 → ⊥) → b ≡ badMapping xs (at + off) kept map requested → b ≡ badSlot g t
+    unfolding badSlot keepsSelector badRecord
+    bad-non-default b z h e =
+        let odd = odd-one h in
+        let place : off ≡ be 4 xs (at + 10 + 11 * (t / 2) + 7) = here z .is ∙ offset-odd xs at len kept t odd in
+        let counted : counts 5 xs at len off ≡ true = rw odd at (here z .counted) in
+        rw (ne-eqb (t % 2) 0 h, here z .keeps, ← place, counted) e
+
     module _ (out : List ℕ) (to : ℕ) where
       pub copy-none : off ≡ 0 → out ≡ sets out to (slot g t)
       copy-none z = rw (none z)
@@ -227,42 +251,48 @@ pub ruleset sizes = (size-none, size-default, size-non-default)
 
 pub ruleset sums = (sum-none, sum-default, sum-non-default)
 
+pub ruleset bads = (bad-none, bad-default, bad-non-default)
+
 pub ruleset copies = (copy-none, copy-default, copy-non-default)
 
--- ---- refusal 8
-
-module _ (xs : List ℕ) (at len : ℕ) (kept requested : List ℕ) (k off : ℕ) (r : Readable xs at len kept requested) (s : Source xs at len kept (2 * k + 1) off) where
-  half : (2 * k + 1) / 2 ≡ k
-  half = omega arith
-
-  odd : (2 * k + 1) % 2 ≡ 1
-  odd = omega arith
-
-  pub bad-lent : (off ≡ 0 → ⊥) → Table xs (at + off) kept requested
-  bad-lent z = lent-non-default xs at len kept requested (2 * k + 1) off r s z (λ e. omega (arith, odd, e))
-
-  module _ (map : List ℕ) where
-    pub bad-none : off ≡ 0 → false ≡ badKept (given xs at len kept map requested) k
-    unfolding keepsSelector badRecord
-    bad-none z =
-        let h = holds kept (be 3 xs (at + 10 + 11 * k)) in
-        let o = be 4 xs (at + 10 + 11 * k + 7) in
-        let place : tableOffset xs at (2 * k + 1) ≡ o = offset-odd xs at len kept (2 * k + 1) odd ∙ ap (λ i. be 4 xs (at + 10 + 11 * i + 7)) half in
-        let no : both h (counts 5 xs at len o) ≡ false = rw (half, odd, place) at (source-zero xs at len kept (2 * k + 1) off (s .is) z) in
-        sym (both-none h (counts 5 xs at len o) (badMapping xs (at + o) kept map requested) no)
-
-    pub bad-some : (b : Bool) → (off ≡ 0 → ⊥) → b ≡ badMapping xs (at + off) kept map requested → b ≡ badKept (given xs at len kept map requested) k
-    unfolding keepsSelector badRecord
-    bad-some b z e =
-        let f = found xs at len kept (2 * k + 1) off (s .is) z in
-        let place : off ≡ be 4 xs (at + 10 + 11 * k + 7) = f .is ∙ offset-odd xs at len kept (2 * k + 1) odd ∙ ap (λ i. be 4 xs (at + 10 + 11 * i + 7)) half in
-        let keeps : holds kept (be 3 xs (at + 10 + 11 * k)) ≡ true = rw half at (f .keeps) in
-        let counted : counts 5 xs at len off ≡ true = rw odd at (f .counted) in
-        rw (keeps, ← place, counted) e
-
-pub ruleset bads = (bad-none, bad-some)
-
 -- ---- two tables
+
+-- tables of one sort from one place of the source
+module _ (xs : List ℕ) (at len : ℕ) (kept map requested : List ℕ) (i j p : ℕ) (r : Readable xs at len kept requested) (s : Source xs at len kept i p) (u : Source xs at len kept j p) (e : i % 2 ≡ j % 2) where
+  pub slot-like : slot (given xs at len kept map requested) i ≡ slot (given xs at len kept map requested) j
+  slot-like =
+      let like : Type 0 = slot (given xs at len kept map requested) i ≡ slot (given xs at len kept map requested) j in
+      by-test like (eqb p 0)
+      (λ n.
+      let z = eqb-true p 0 n in
+      none xs at len kept requested i p r s map z ∙ sym (none xs at len kept requested j p r u map z))
+      (λ n.
+      let z = eqb-false p 0 n in
+      by-test like (eqb (i % 2) 0)
+      (λ q.
+      let d = eqb-true (i % 2) 0 q in
+      default-is xs at len kept requested i p r s map z d ∙ sym (default-is xs at len kept requested j p r u map z (sym e ∙ d)))
+      (λ q.
+      let d = eqb-false (i % 2) 0 q in
+      non-default-is xs at len kept requested i p r s map z d ∙ sym (non-default-is xs at len kept requested j p r u map z (λ w. d (e ∙ w)))))
+
+  pub bad-like : badSlot (given xs at len kept map requested) i ≡ badSlot (given xs at len kept map requested) j
+  bad-like =
+      let like : Type 0 = badSlot (given xs at len kept map requested) i ≡ badSlot (given xs at len kept map requested) j in
+      by-test like (eqb p 0)
+      (λ n.
+      let z = eqb-true p 0 n in
+      sym (bad-none xs at len kept requested i p r s map z) ∙ bad-none xs at len kept requested j p r u map z)
+      (λ n.
+      let z = eqb-false p 0 n in
+      by-test like (eqb (i % 2) 0)
+      (λ q.
+      let d = eqb-true (i % 2) 0 q in
+      sym (bad-default xs at len kept requested i p r s map d) ∙ bad-default xs at len kept requested j p r u map (sym e ∙ d))
+      (λ q.
+      let d = eqb-false (i % 2) 0 q in
+      sym (bad-non-default xs at len kept requested i p r s map (badMapping xs (at + p) kept map requested) z d refl)
+      ∙ bad-non-default xs at len kept requested j p r u map (badMapping xs (at + p) kept map requested) z (λ w. d (e ∙ w)) refl))
 
 module _ (xs : List ℕ) (at len : ℕ) (kept map requested : List ℕ) (t off : ℕ) (s : Source xs at len kept t off) where
   -- a table that is there has its source
@@ -327,14 +357,7 @@ module _ (xs : List ℕ) (at len : ℕ) (kept map requested : List ℕ) (i j p q
 
   -- tables of one sort from one place
   pub same-place : i % 2 ≡ j % 2 → p ≡ q → true ≡ eqList (slot (given xs at len kept map requested) i) (slot (given xs at len kept map requested) j)
-  same-place e d =
-      by-leb (true ≡ eqList (slot (given xs at len kept map requested) i) (slot (given xs at len kept map requested) j)) (i % 2) 0
-      (λ l.
-      let z : i % 2 ≡ 0 = omega arith in
-      rw (default-is xs at len kept requested i p r s map one-there z, default-is xs at len kept requested j q r u map other-there (sym e ∙ z), d) (sym (eq-refl (newDefault xs (at + q) kept))))
-      (λ l.
-      let z : i % 2 ≡ 0 → ⊥ = λ n. omega arith in
-      rw (non-default-is xs at len kept requested i p r s map one-there z, non-default-is xs at len kept requested j q r u map other-there (λ n. z (e ∙ n)), d) (sym (eq-refl (newNonDefault xs (at + q) kept map requested))))
+  same-place e d = rw (slot-like xs at len kept map requested i j q r (rw d at s) u e) (sym (eq-refl (slot (given xs at len kept map requested) j)))
 
   module _ (c : Bool) where
     pub same-default-is : i % 2 ≡ j % 2 → i % 2 ≡ 0 → c ≡ eqList (newDefault xs (at + p) kept) (newDefault xs (at + q) kept)

@@ -2,6 +2,7 @@
 use Prim.Native.Nat.{ℕ, _+_, _*_, _/_, _%_, _<_, _≤_}
 use mathlib.Core.Path.{_≡_}
 use mathlib.Core.List.{List, []}
+use mathlib.Core.Bool.{Bool, false}
 use lib.Dec.{eqb}
 use lib.ListN.{length}
 use Rattle.laws.specs.Choice.{pick, both}
@@ -10,11 +11,15 @@ use Rattle.marks.specs.Marks.{holds}
 use Rattle.number.specs.BigEndian.{be}
 use Rattle.uvs.specs.Tables.{counts}
 use Rattle.same_uvs.specs.Streams.{CodePoints}
-use Rattle.selector_tables.specs.Selectors.{Given, keepsSelector, defaultTable, nonDefaultTable}
+use Rattle.selector_tables.specs.Selectors.{Given, keepsSelector, defaultTable, nonDefaultTable, badKept}
 
 -- new table t: none where the selector is not kept
 unfoldable pub slot : Given → ℕ → List ℕ
 slot g t = pick (keepsSelector g (t / 2)) (pick (eqb (t % 2) 0) (defaultTable g (t / 2)) (nonDefaultTable g (t / 2))) []
+
+-- refusal 8 for it, which a non-default table alone can bring
+unfoldable pub badSlot : Given → ℕ → Bool
+badSlot g t = pick (eqb (t % 2) 0) false (badKept g (t / 2))
 
 -- the offset that the source's selector record gives table t
 unfoldable pub tableOffset : List ℕ → ℕ → ℕ → ℕ

@@ -7,8 +7,8 @@ ghost use Rattle.laws.specs.Select.{eqList};
 ghost use Rattle.number.specs.BigEndian.{be};
 ghost use Rattle.uvs.specs.Checksum.{checksum};
 ghost use Rattle.uvs.specs.Tables.{counts};
-ghost use Rattle.selector_tables.specs.Selectors.{given, badKept};
-ghost use Rattle.selector_tables.specs.ByNumber.{slot, Source, Readable, Numbered, Size, Both};
+ghost use Rattle.selector_tables.specs.Selectors.{given};
+ghost use Rattle.selector_tables.specs.ByNumber.{slot, badSlot, Source, Readable, Numbered, Size, Both};
 
 // Whether the source's table t, `off` from the start of the subtable, counts.
 fn counts_table(s: &[u8], at: usize, len: usize, off: u32, t: usize) -> bool
@@ -22,7 +22,14 @@ fn counts_table(s: &[u8], at: usize, len: usize, off: u32, t: usize) -> bool
 }
 
 // The offset of the source's table t; 0 if its selector is not kept or it does not count.
-fn source_table(s: &[u8], at: usize, len: usize, kept: &[u32], requested: &[u16], t: usize) -> usize
+pub fn source_table(
+    s: &[u8],
+    at: usize,
+    len: usize,
+    kept: &[u32],
+    requested: &[u16],
+    t: usize,
+) -> usize
     requires { ⌜ Readable (now s) at len (now kept) (now requested) ⌝ }
     requires { ⌜ t < 2 * be 4 (now s) (at + 6) ⌝ }
     ensures { λ r. ⌜ Source (now (s .entry)) at len (now (kept .entry)) t r ⌝ }
@@ -37,13 +44,14 @@ fn source_table(s: &[u8], at: usize, len: usize, kept: &[u32], requested: &[u16]
     0
 }
 
-// How long a new table is, 0 where there is none, and a checksum of its bytes.
+// How long a new table is, 0 where there is none, a checksum of its bytes, and refusal 8 for it.
 pub struct TableMeasure {
     pub size: usize,
-    pub sum: u32,
+    pub sum: u64,
+    pub bad: bool,
 }
 
-// Length and checksum of new table t. The flags are work room.
+// Length and checksum of new table t, whose source stands at `off`, and whether it names a missing glyph. The flags are work room.
 pub fn measure_table(
     s: &[u8],
     at: usize,
@@ -53,15 +61,21 @@ pub fn measure_table(
     requested: &[u16],
     flags: &mut [u8],
     t: usize,
+    off: usize,
 ) -> TableMeasure
     requires { ⌜ Readable (now s) at len (now kept) (now requested) ⌝ }
     requires { ⌜ Numbered (now s) at (now kept) (now flags) t ⌝ }
+    requires { ⌜ Source (now s) at len (now kept) t off ⌝ }
     ensures { λ r. ⌜ Size (given (now (s .entry)) at len (now (kept .entry)) (now (map .entry)) (now (requested .entry))) t (r .size) ⌝ }
     ensures { λ r. ⌜ r .sum ≡ checksum (slot (given (now (s .entry)) at len (now (kept .entry)) (now (map .entry)) (now (requested .entry))) t) ⌝ }
+    ensures { λ r. ⌜ r .bad ≡ badSlot (given (now (s .entry)) at len (now (kept .entry)) (now (map .entry)) (now (requested .entry))) t ⌝ }
 {
-    let off = source_table(s, at, len, kept, requested, t);
     if off == 0 {
-        return TableMeasure { size: 0, sum: 0 };
+        return TableMeasure {
+            size: 0,
+            sum: 0,
+            bad: false,
+        };
     }
     let p = at + off;
     if t % 2 == 0 {
@@ -69,12 +83,14 @@ pub fn measure_table(
         return TableMeasure {
             size: table.size,
             sum: table.sum,
+            bad: false,
         };
     }
     let table = non_default_uvs::measure_non_default(s, p, kept, map, requested);
     TableMeasure {
         size: table.size,
         sum: table.sum,
+        bad: table.bad,
     }
 }
 
@@ -139,25 +155,4 @@ pub fn copy_table(
         return;
     }
     non_default_uvs::copy_non_default_uvs(out, to, s, at + off, kept, map, requested);
-}
-
-// Refusal 8 for selector record k: it is kept, and its non-default table names a missing glyph.
-pub fn bad_record(
-    s: &[u8],
-    at: usize,
-    len: usize,
-    kept: &[u32],
-    map: &[u16],
-    requested: &[u16],
-    k: usize,
-) -> bool
-    requires { ⌜ Readable (now s) at len (now kept) (now requested) ⌝ }
-    requires { ⌜ k < be 4 (now s) (at + 6) ⌝ }
-    ensures { λ r. ⌜ r ≡ badKept (given (now (s .entry)) at len (now (kept .entry)) (now (map .entry)) (now (requested .entry))) k ⌝ }
-{
-    let off = source_table(s, at, len, kept, requested, 2 * k + 1);
-    if off == 0 {
-        return false;
-    }
-    non_default_uvs::bad_mapping(s, at + off, kept, map, requested)
 }

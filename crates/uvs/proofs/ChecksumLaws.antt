@@ -3,6 +3,7 @@ use Prim.Native.Nat.{ℕ, suc, _+_, _-_, _*_, _/_, _%_, _<_, _≤_}
 use mathlib.Core.Path.{_≡_, refl, sym, ap, _∙_}
 use mathlib.Core.List.{List, [], _∷_, _++_}
 use mathlib.Core.Bool.{Bool, true, false}
+use native.Mathlib.Nat.{mul-le-mul-left, mul-le-mul-right}
 use native.Mathlib.Omega.{arith}
 use lib.ListN.{length, drop}
 use lib.Seq.{drop-append-add}
@@ -13,20 +14,24 @@ use Rattle.laws.proofs.SelectLaws.{each-all, select-yes, select-no, select-end}
 use Rattle.number.specs.BigEndian.{enc}
 use Rattle.number.proofs.BigEndianLaws.{length-enc}
 use Rattle.uvs.specs.Tables.{table}
-use Rattle.uvs.specs.Checksum.{mixed, checksum}
+use Rattle.uvs.specs.Checksum.{stirred, mixed, checksum}
 
 pub mixed-append : (s : ℕ) (us vs : List ℕ) → mixed s (us ++ vs) ≡ mixed (mixed s us) vs
 unfolding mixed
 mixed-append s [] vs = refl
-mixed-append s (u ∷ us) vs = mixed-append ((s * 16777619 + u) % 4294967296) us vs
+mixed-append s (u ∷ us) vs = mixed-append (stirred s u) us vs
 
 -- q and r are the code's own sums
 pub mix-both : (s : ℕ) (us vs : List ℕ) (q r : ℕ) → q ≡ mixed s us → r ≡ mixed q vs → r ≡ mixed s (us ++ vs)
 mix-both s us vs q r e d = rw (d, e) (sym (mixed-append s us vs))
 
-pub mix-one : (s v : ℕ) → (s * 16777619 + v % 256) % 4294967296 ≡ mixed s (enc 1 v)
+pub mix-one : (s v : ℕ) → stirred s (v % 256) ≡ mixed s (enc 1 v)
 unfolding mixed enc
 mix-one s v = refl
+
+-- a half of a checksum can be squared
+pub square-below : (a : ℕ) → a < 4294967296 → a * a ≤ 18446744065119617025
+square-below a h = omega (arith, mul-le-mul-left {m = a} {n = 4294967295} a (omega arith), mul-le-mul-right {m = a} {n = 4294967295} 4294967295 (omega arith))
 
 -- a number of one byte more
 pub mix-more : (w s v q r : ℕ) → q ≡ mixed s (enc w (v / 256)) → r ≡ mixed q (enc 1 v) → r ≡ mixed s (enc (suc w) v)

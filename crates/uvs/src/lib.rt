@@ -37,21 +37,26 @@ pub fn counts_non_default(s: &[u8], at: usize, len: usize, off: u32) -> bool
 }
 
 // A checksum with one byte more, the lowest of v.
-pub fn mix_byte(sum: u32, v: u32) -> u32
+pub fn mix_byte(sum: u64, v: u32) -> u64
     ensures { λ r. ⌜ r ≡ mixed sum (enc 1 v) ⌝ }
 {
-    ((sum as u64 * 16777619 + (v % 256) as u64) % 4294967296) as u32
+    let b = (v % 256) as u64;
+    let high = sum / 4294967296;
+    let low = sum % 4294967296;
+    let first = (high * high + low + b + 2654435769) % 4294967291;
+    let second = (low * low + high + b * 16777619 + 1) % 4294967279;
+    first * 4294967296 + second
 }
 
 // With the lowest two bytes of v.
-pub fn mix_u16(sum: u32, v: u32) -> u32
+pub fn mix_u16(sum: u64, v: u32) -> u64
     ensures { λ r. ⌜ r ≡ mixed sum (enc 2 v) ⌝ }
 {
     mix_byte(mix_byte(sum, v / 256), v)
 }
 
 // With the lowest three.
-pub fn mix_u24(sum: u32, v: u32) -> u32
+pub fn mix_u24(sum: u64, v: u32) -> u64
     ensures { λ r. ⌜ r ≡ mixed sum (enc 3 v) ⌝ }
 {
     mix_byte(mix_u16(sum, v / 256), v)

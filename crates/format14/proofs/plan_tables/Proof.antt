@@ -1,51 +1,42 @@
 -- Header, selector records and tables are the whole subtable.
-use native.Mathlib.Omega.{arith}
-use Rattle.format14.proofs.WholeLaws.{planned}
 use borrow.Author.Needs.{needs}
 use Rattle.format14.proofs.plan_tables.Statement.{statement}
 use Rattle.format14.proofs.plan_tables.Tie as tie
+use Rattle.format14.proofs.WholeLaws.{planned}
 
-slice-aggregate-lay-out : tie.Need-slice-aggregate-lay-out
-slice-aggregate-lay-out c = search needs
+mul-lay-out-in-room : tie.Need-mul-lay-out-in-room
+mul-lay-out-in-room c = search needs
 
-slice-aggregate-lay-out-2 : tie.Need-slice-aggregate-lay-out-2
-slice-aggregate-lay-out-2 c = search needs
-
-mul-lay-out : tie.Need-mul-lay-out
-mul-lay-out c = search needs
-
-lay-out-requires : tie.Need-lay-out-requires
-lay-out-requires c κs = (search needs, (omega arith, omega arith))
+lay-out-in-room-requires : tie.Need-lay-out-in-room-requires
+lay-out-in-room-requires c κs = search needs
 
 count-records-requires : tie.Need-count-records-requires
 count-records-requires c κs = search needs
 
-mul-t19 : tie.Need-mul-t19
-mul-t19 c = omega arith
+mul-t14 : tie.Need-mul-t14
+mul-t14 c = search needs
 
-add-t22 : tie.Need-add-t22
-add-t22 c = omega arith
+add-t17 : tie.Need-add-t17
+add-t17 c = search needs
 
-add-t23 : tie.Need-add-t23
-add-t23 c = omega arith
+add-t18 : tie.Need-add-t18
+add-t18 c = search needs
 
 same-length : tie.Need-same-length
 same-length c = search needs
 
 returns : tie.Need-returns
-returns c = search planned
+returns c = (search needs, search planned)
 
 pub plan-tables-spec : {M : Type 1} → statement M
 plan-tables-spec =
     tie.close
     (tie.spec
-    slice-aggregate-lay-out
-    slice-aggregate-lay-out-2
-    mul-lay-out
-    lay-out-requires
+    mul-lay-out-in-room
+    lay-out-in-room-requires
     count-records-requires
-    mul-t19
-    add-t22
-    add-t23
+    mul-t14
+    add-t17
+    add-t18
     same-length
     returns)

@@ -1,9 +1,9 @@
 -- Header, records and tables stand one behind the other.
-use native.Mathlib.Omega.{arith}
-use Rattle.format14.proofs.WholeLaws.{distances, whole}
 use borrow.Author.Needs.{needs}
 use Rattle.format14.proofs.write_planned.Statement.{statement}
 use Rattle.format14.proofs.write_planned.Tie as tie
+use native.Mathlib.Omega.{arith}
+use Rattle.format14.proofs.WholeLaws.{distances, whole}
 
 cast-put-header : tie.Need-cast-put-header
 cast-put-header c = search needs
@@ -20,17 +20,14 @@ add-copy-records c = search needs
 copy-records-requires : tie.Need-copy-records-requires
 copy-records-requires c κs = (search distances, (omega arith, omega arith))
 
-add-copy-var-selector-record-uvs-tables : tie.Need-add-copy-var-selector-record-uvs-tables
-add-copy-var-selector-record-uvs-tables c = search needs
+add-copy-tables-in-room : tie.Need-add-copy-tables-in-room
+add-copy-tables-in-room c = search needs
 
-slice-aggregate-copy-var-selector-record-uvs-tables : tie.Need-slice-aggregate-copy-var-selector-record-uvs-tables
-slice-aggregate-copy-var-selector-record-uvs-tables c = search needs
+mul-copy-tables-in-room : tie.Need-mul-copy-tables-in-room
+mul-copy-tables-in-room c = search needs
 
-mul-copy-var-selector-record-uvs-tables : tie.Need-mul-copy-var-selector-record-uvs-tables
-mul-copy-var-selector-record-uvs-tables c = search needs
-
-copy-var-selector-record-uvs-tables-requires : tie.Need-copy-var-selector-record-uvs-tables-requires
-copy-var-selector-record-uvs-tables-requires c κs = (search needs, (omega arith, (search needs, omega arith)))
+copy-tables-in-room-requires : tie.Need-copy-tables-in-room-requires
+copy-tables-in-room-requires c κs = (search needs, (omega arith, (search needs, omega arith)))
 
 same-length : tie.Need-same-length
 same-length c = search needs
@@ -47,9 +44,8 @@ write-planned-spec =
     put-header-requires
     add-copy-records
     copy-records-requires
-    add-copy-var-selector-record-uvs-tables
-    slice-aggregate-copy-var-selector-record-uvs-tables
-    mul-copy-var-selector-record-uvs-tables
-    copy-var-selector-record-uvs-tables-requires
+    add-copy-tables-in-room
+    mul-copy-tables-in-room
+    copy-tables-in-room-requires
     same-length
     returns)

@@ -1,4 +1,4 @@
--- Mappings passed and mappings still to come give the whole count and the whole checksum.
+-- Mappings passed and mappings still to come give the whole count, the whole checksum, and whether one of all is bad.
 use Rattle.non_default_uvs.proofs.measure_non_default.Statement.{statement}
 use Rattle.non_default_uvs.proofs.measure_non_default.Tie as tie
 use borrow.Author.Needs.{needs}
@@ -6,14 +6,14 @@ use native.Mathlib.Omega.{arith}
 use Prim.Native.Nat.{_-_}
 use Rattle.laws.proofs.SelectLaws.{Counting, counting}
 use Rattle.uvs.specs.NonDefault.{mappingAt, mappingBytes, keepsMapping}
-use Rattle.non_default_uvs.proofs.MappingLaws.{lengths, sum-all}
+use Rattle.non_default_uvs.proofs.MappingLaws.{Judging, judging, lengths, sum-all}
 use Rattle.uvs.proofs.ChecksumLaws.{Summing, summing}
 
 abbrev Inv-loop : tie.InvT-loop
-Inv-loop s p kept map requested m i₀ near₀ n₀ sum₀ i near n sum = Counting (keepsMapping kept requested) (mappingAt s p) m i n × Summing (mappingBytes map) (keepsMapping kept requested) (mappingAt s p) m i sum
+Inv-loop s p kept map requested m i₀ near₀ n₀ sum₀ bad₀ i near n sum bad = Counting (keepsMapping kept requested) (mappingAt s p) m i n × (Summing (mappingBytes map) (keepsMapping kept requested) (mappingAt s p) m i sum × Judging s p kept map requested m i bad)
 
 abbrev μ-loop : tie.MeasureT-loop
-μ-loop s p kept map requested m i₀ near₀ n₀ sum₀ i near n sum = m - i
+μ-loop s p kept map requested m i₀ near₀ n₀ sum₀ bad₀ i near n sum bad = m - i
 
 u32-at-requires : tie.Need-u32-at-requires Inv-loop μ-loop
 u32-at-requires c κs = search needs
@@ -22,7 +22,7 @@ cast-m : tie.Need-cast-m Inv-loop μ-loop
 cast-m c = search needs
 
 loop-holds : tie.Need-loop-holds Inv-loop μ-loop
-loop-holds c = (search counting, search summing)
+loop-holds c = (search counting, (search summing, search judging))
 
 add-from : tie.Need-add-from Inv-loop μ-loop
 add-from c = search needs
@@ -49,25 +49,25 @@ loop-less : tie.Need-loop-less Inv-loop μ-loop
 loop-less c = omega arith
 
 loop-again : tie.Need-loop-again Inv-loop μ-loop
-loop-again c = (search counting, search summing)
+loop-again c = (search counting, (search summing, search judging))
 
 loop-less-2 : tie.Need-loop-less-2 Inv-loop μ-loop
 loop-less-2 c = omega arith
 
 loop-again-2 : tie.Need-loop-again-2 Inv-loop μ-loop
-loop-again-2 c = (search counting, search summing)
+loop-again-2 c = (search counting, (search summing, search judging))
 
 returns : tie.Need-returns Inv-loop μ-loop
-returns c = (search lengths, search sum-all)
+returns c = (search lengths, (search sum-all, search judging))
 
-mul-t18 : tie.Need-mul-t18 Inv-loop μ-loop
-mul-t18 c = search needs
+mul-t20 : tie.Need-mul-t20 Inv-loop μ-loop
+mul-t20 c = search needs
 
-add-t19 : tie.Need-add-t19 Inv-loop μ-loop
-add-t19 c = search needs
+add-t21 : tie.Need-add-t21 Inv-loop μ-loop
+add-t21 c = search needs
 
 returns-2 : tie.Need-returns-2 Inv-loop μ-loop
-returns-2 c = (search lengths, search sum-all)
+returns-2 c = (search lengths, (search sum-all, search judging))
 
 pub measure-non-default-spec : {M : Type 1} → statement M
 measure-non-default-spec =
@@ -90,6 +90,6 @@ measure-non-default-spec =
     loop-less-2
     loop-again-2
     returns
-    mul-t18
-    add-t19
+    mul-t20
+    add-t21
     returns-2)

@@ -1,8 +1,8 @@
--- The bytes of the code point, then those of the new glyph.
-use Rattle.non_default_uvs.proofs.MappingLaws.{mix-is}
+-- The bytes of the code point, then those of the new glyph; the glyph is missing where the map gives the absent one.
 use borrow.Author.Needs.{needs}
 use Rattle.non_default_uvs.proofs.mix_mapping.Statement.{statement}
 use Rattle.non_default_uvs.proofs.mix_mapping.Tie as tie
+use Rattle.non_default_uvs.proofs.MappingLaws.{mix-is, bads}
 
 u24-at-requires : tie.Need-u24-at-requires
 u24-at-requires c κs = search needs
@@ -16,17 +16,20 @@ u16-at-requires c κs = search needs
 new-glyph-requires : tie.Need-new-glyph-requires
 new-glyph-requires c κs = search needs
 
-cast-new : tie.Need-cast-new
-cast-new c = search needs
-
 mix-u24-requires : tie.Need-mix-u24-requires
 mix-u24-requires c κs = search needs
+
+cast-mix-u16 : tie.Need-cast-mix-u16
+cast-mix-u16 c = search needs
 
 mix-u16-requires : tie.Need-mix-u16-requires
 mix-u16-requires c κs = search needs
 
 returns : tie.Need-returns
-returns c = search mix-is
+returns c = (search mix-is, search bads)
+
+returns-2 : tie.Need-returns-2
+returns-2 c = (search mix-is, search bads)
 
 pub mix-mapping-spec : {M : Type 1} → statement M
 mix-mapping-spec =
@@ -36,7 +39,8 @@ mix-mapping-spec =
     add-u16-at
     u16-at-requires
     new-glyph-requires
-    cast-new
     mix-u24-requires
+    cast-mix-u16
     mix-u16-requires
-    returns)
+    returns
+    returns-2)

@@ -1,14 +1,11 @@
 -- The table found is the default or the non-default one by its number.
-use Rattle.selector_tables.proofs.ByNumberLaws.{sizes, sums, lents}
 use borrow.Author.Needs.{needs}
 use Rattle.selector_tables.proofs.measure_table.Statement.{statement}
 use Rattle.selector_tables.proofs.measure_table.Tie as tie
-
-source-table-requires : tie.Need-source-table-requires
-source-table-requires c κs = search needs
+use Rattle.selector_tables.proofs.ByNumberLaws.{sizes, sums, bads, lents}
 
 returns : tie.Need-returns
-returns c = (search sizes, search sums)
+returns c = (search sizes, (search sums, search bads))
 
 add-p : tie.Need-add-p
 add-p c = search needs
@@ -20,19 +17,18 @@ same-length : tie.Need-same-length
 same-length c = search needs
 
 returns-2 : tie.Need-returns-2
-returns-2 c = (search sizes, search sums)
+returns-2 c = (search sizes, (search sums, search bads))
 
 measure-non-default-requires : tie.Need-measure-non-default-requires
 measure-non-default-requires c κs = search lents
 
 returns-3 : tie.Need-returns-3
-returns-3 c = (search sizes, search sums)
+returns-3 c = (search sizes, (search sums, search bads))
 
 pub measure-table-spec : {M : Type 1} → statement M
 measure-table-spec =
     tie.close
     (tie.spec
-    source-table-requires
     returns
     add-p
     measure-default-requires
