@@ -9,24 +9,16 @@ use Rattle.laws.specs.Choice.{both}
 use Rattle.laws.proofs.ChoiceLaws.{by-leb, both-left, both-right, false-true}
 use Rattle.laws.proofs.FirstLaws.{first-holds, first-none}
 use Rattle.number.specs.Limits.{recordsMax}
-use Rattle.source.specs.declared.Kind.{Kind}
-use Rattle.source.specs.declared.Kind.the-variants.{Format4, Format12, Format14, Unreadable}
 use Rattle.source.specs.Header.{recordCount}
 use Rattle.source.specs.Kind.{formatOf}
 use Rattle.records.specs.Records.{leadsTo, leadsToFormat, retained}
 use Rattle.listing.specs.Job.{Job, glyphCount}
 use Rattle.covering.specs.Covered.{covered}
-use Rattle.format4.specs.declared.Size.{Size}
-use Rattle.format4.specs.declared.Size.the-variants.{Empty as Empty4, TooLong as TooLong4, Fits}
-use Rattle.format4.specs.Size.{sizeOf as sizeOf4}
-use Rattle.format14.specs.declared.Outcome.{Outcome as Outcome14}
-use Rattle.format14.specs.declared.Outcome.the-variants.{Refused8, Empty as Empty14, Length}
-use Rattle.format14.specs.Format14.{outcome as outcome14}
 use Rattle.plan.specs.declared.Outcome.{Outcome}
 use Rattle.plan.specs.declared.Outcome.the-variants.{NotRetained, Skipped, Empty, TooLong, Covered, BadMapping, Served, Made}
-use Rattle.plan.specs.Plan.{listedOf, givenOf, by4, by14, freshAs, fresh, isMade, sizeOf, serves, outcomeOf, outcomes, plan}
+use Rattle.plan.specs.Plan.{fresh, isMade, sizeOf, serves, outcomeOf, outcomes, plan}
 use Rattle.plan.proofs.OutcomeLaws.{made-size}
-use Rattle.plan.proofs.RowLaws.{outcome-past, outcome-at, server, by-outcome}
+use Rattle.plan.proofs.RowLaws.{outcome-past, outcome-at, server, by-outcome, fresh-never}
 use Rattle.made.proofs.MadeLaws.{not-made}
 
 -- ---- only the walk says that a record is served
@@ -53,26 +45,6 @@ serverOf (Made size) = 0
 
 not-served : (P : Type 0) (o : Outcome) (r : ℕ) → isServed o ≡ false → o ≡ Served r → P
 not-served P o r f e = absurd (false-true (sym f ∙ ap isServed e))
-
-fresh-unserved : (j : Job) (k : ℕ) → isServed (fresh j k) ≡ false
-unfolding fresh
-fresh-unserved j k = go (leadsTo (j .source) k)
-  where
-    size4 : (size : Size) → isServed (by4 size) ≡ false
-    size4 Empty4 = refl
-    size4 TooLong4 = refl
-    size4 (Fits c) = refl
-
-    size14 : (o : Outcome14) → isServed (by14 o) ≡ false
-    size14 Refused8 = refl
-    size14 Empty14 = refl
-    size14 (Length n) = refl
-
-    go : (kind : Kind) → isServed (freshAs kind j k) ≡ false
-    go (Format4 language s len) = size4 (sizeOf4 (listedOf j k))
-    go (Format12 language g len) = refl
-    go (Format14 r len) = size14 (outcome14 (givenOf j k len))
-    go Unreadable = refl
 
 -- ---- in the plan
 
@@ -159,5 +131,5 @@ module _ (j : Job) (few : recordCount (j .source) ≤ recordsMax) where
       let l : r < k = omega (arith, same, c) in
       let d = rw same at (first-holds (serves (j .source) os k) k 0 (omega (arith, c))) in
       serving k r h a b l d)
-      (λ a b c q. not-served (Serving j k r) (fresh j k) r (fresh-unserved j k) q)
+      (λ a b c q. not-served (Serving j k r) (fresh j k) r (fresh-never j k isServed refl refl refl refl (λ n. refl)) q)
       (sym (plan-at k h) ∙ e))

@@ -22,19 +22,15 @@ use Rattle.records.specs.Records.{leadsTo, isPair, bmpPair, fullPair, retained}
 use Rattle.covering.specs.Covered.{isSibling, firstSibling, reachesAbove, mapAlike, siblingCovers, covered}
 use Rattle.listing.specs.Job.{Job, job, glyphCount}
 use Rattle.listing.specs.Listing.{mapsAs, maps, listed}
-use Rattle.format4.specs.declared.Size.{Size}
-use Rattle.format4.specs.declared.Size.the-variants.{Empty as Empty4, TooLong as TooLong4, Fits}
 use Rattle.format4.specs.Size.{sizeOf as sizeOf4}
 use Rattle.format12.specs.Format12.{sizeOf as sizeOf12}
 use Rattle.selector_tables.specs.Selectors.{given}
-use Rattle.format14.specs.declared.Outcome.{Outcome as Outcome14}
-use Rattle.format14.specs.declared.Outcome.the-variants.{Refused8, Empty as Empty14, Length}
 use Rattle.format14.specs.Format14.{outcome as outcome14}
 use Rattle.plan.specs.declared.Outcome.{Outcome}
 use Rattle.plan.specs.declared.Outcome.the-variants.{NotRetained, Made}
-use Rattle.plan.specs.Plan.{listedOf, givenOf, by4, by14, freshAs, fresh, outcomes, Short}
+use Rattle.plan.specs.Plan.{listedOf, by4, by14, freshAs, fresh, outcomes, Short}
 use Rattle.plan.specs.Twins.{isCovered, cameToNothing, isTwin, twin, isSpent, spent, Earlier, Tells}
-use Rattle.plan.proofs.RowLaws.{outcome-at, by-outcome, covers}
+use Rattle.plan.proofs.RowLaws.{outcome-at, by-outcome, covers, fresh-never}
 use Rattle.plan.proofs.ServesLaws.{two}
 
 -- ---- the searches, read off the code's answers
@@ -140,26 +136,6 @@ module _ (j : Job) (k r : ℕ) (e : offsetOf (j .source) r ≡ offsetOf (j .sour
 
 -- ---- what the row tells
 
-fresh-uncovered : (j : Job) (k : ℕ) → isCovered (fresh j k) ≡ false
-unfolding fresh
-fresh-uncovered j k = go (leadsTo (j .source) k)
-  where
-    size4 : (size : Size) → isCovered (by4 size) ≡ false
-    size4 Empty4 = refl
-    size4 TooLong4 = refl
-    size4 (Fits c) = refl
-
-    size14 : (o : Outcome14) → isCovered (by14 o) ≡ false
-    size14 Refused8 = refl
-    size14 Empty14 = refl
-    size14 (Length n) = refl
-
-    go : (kind : Kind) → isCovered (freshAs kind j k) ≡ false
-    go (Format4 language s len) = size4 (sizeOf4 (listedOf j k))
-    go (Format12 language g len) = refl
-    go (Format14 r len) = size14 (outcome14 (givenOf j k len))
-    go Unreadable = refl
-
 module _ (j : Job) (os : List Outcome) (k : ℕ) (e : Earlier j os k) where
   row-covered : (r : ℕ) → r < k → retained (j .source) r ≡ true → isCovered (getD os r NotRetained) ≡ covered (j .source) (glyphCount j) (j .kept) r
   row-covered r h keeps =
@@ -168,7 +144,7 @@ module _ (j : Job) (os : List Outcome) (k : ℕ) (e : Earlier j os k) where
       (λ f. absurd (false-true (sym f ∙ keeps)))
       (λ f c. sym c)
       (λ f c h. sym c)
-      (λ f c h. fresh-uncovered j r ∙ sym c))
+      (λ f c h. fresh-never j r isCovered refl refl refl refl (λ n. refl) ∙ sym c))
 
   row-spent : (r : ℕ) → r < k → cameToNothing (getD os r NotRetained) ≡ true → getD os r NotRetained ≡ fresh j r
   row-spent r h =
