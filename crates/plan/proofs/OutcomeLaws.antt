@@ -1,6 +1,6 @@
 -- What becomes of a record, read off the code's answers.
 use Prim.Native.Nat.{ℕ, _<_, _≤_}
-use mathlib.Core.Path.{_≡_, refl, sym}
+use mathlib.Core.Path.{_≡_, refl, sym, _∙_}
 use mathlib.Core.List.{List}
 use mathlib.Core.Bool.{Bool, true, false}
 use native.Mathlib.Omega.{arith}
@@ -59,7 +59,10 @@ module _ (xs cs gs kept map requested : List ℕ) (os : List Outcome) (k : ℕ) 
     unfolding outcomeOf
     retained-no e = rw (← q, e)
 
-pub ruleset outcome-rules = (covered-yes, served-by, is-fresh, retained-yes, retained-no)
+pub retained-told : (xs : List ℕ) (k : ℕ) (t : Bool) → t ≡ retained xs k → t ≡ true → retained xs k ≡ true
+retained-told xs k t q e = sym q ∙ e
+
+pub ruleset outcome-rules = (covered-yes, served-by, is-fresh, retained-yes, retained-no, retained-told)
 
 -- ---- what it tells of an outcome that it is "made", or is not
 

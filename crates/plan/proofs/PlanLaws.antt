@@ -12,6 +12,7 @@ use Rattle.listing.specs.Job.{Job, glyphCount}
 use Rattle.plan.specs.declared.Outcome.{Outcome}
 use Rattle.plan.specs.declared.Outcome.the-variants.{NotRetained}
 use Rattle.plan.specs.Plan.{outcomeOf, outcomes, plan, Short, Small, Ready, Prepared}
+use Rattle.plan.specs.Twins.{Earlier}
 
 -- ---- what is asked for each record
 
@@ -116,10 +117,13 @@ module _ (j : Job) (m : ℕ) (fs ot tocs togs : List ℕ) (os : List Outcome) (k
   pub planning-rooms : k < m → Rooms (j .source) m k (glyphCount j) (j .kept) fs ot
   planning-rooms h = rooms j m fs ot tocs togs (l .prepared) k h
 
+  pub planning-earlier : k < m → Earlier j os k
+  planning-earlier h = record { inside = omega (arith, l .prepared .few-records); row = l .row; small = l .small }
+
   pub planning-inside : k < m → k < 64
   planning-inside h = omega (arith, l .prepared .few-records)
 
-pub ruleset planning = (planning-start, planning-on, planning-done, planning-ready, planning-rooms, planning-inside)
+pub ruleset planning = (planning-start, planning-on, planning-done, planning-ready, planning-rooms, planning-earlier, planning-inside)
 
 -- the work room keeps its lengths
 pub record Kept (fs₀ ot₀ tocs₀ togs₀ fs ot tocs togs : List ℕ) : Type 0 where

@@ -1,9 +1,10 @@
 // What becomes of each record of a source: a walk in source order, with what earlier records came to.
 use source::Kind;
 ghost use mathlib.Core.Path.{_≡_};
+ghost use mathlib.Core.Bool.{true};
 ghost use Prim.Native.Nat.{_<_};
 ghost use lib.ListN.{length};
-ghost use Rattle.covering.specs.Covered.{Rooms};
+ghost use Rattle.covering.specs.Covered.{covered, Rooms};
 ghost use Rattle.listing.specs.Job.{job};
 ghost use Rattle.listing.specs.Listing.{listed};
 ghost use Rattle.format4.specs.Size.{sizeOf as sizeOf4};
@@ -13,8 +14,9 @@ ghost use Rattle.selector_tables.specs.Selectors.{given};
 ghost use Rattle.selector_tables.specs.ByNumber.{Readable};
 ghost use Rattle.format14.specs.Format14.{lengthIn, outcome as outcome14};
 ghost use Rattle.plan.specs.declared.Outcome.the-variants.{Made};
-ghost use Rattle.records.specs.Records.{Placed};
+ghost use Rattle.records.specs.Records.{retained, Placed};
 ghost use Rattle.plan.specs.Plan.{by4, by14, fresh, isMade, isBad, serves, server, retainedOutcome, outcomeOf, plan, Short, Small, Short4, Two, Ready, Prepared};
+ghost use Rattle.plan.specs.Twins.{isCovered, cameToNothing, isTwin, twin, isSpent, spent, Earlier, Tells};
 
 // Served holds the record whose table serves, Made the length of the record's own table.
 pub enum Outcome {
@@ -157,6 +159,36 @@ pub fn is_bad(outcome: Outcome) -> bool
     }
 }
 
+fn is_covered(outcome: Outcome) -> bool
+    ensures { λ r. ⌜ r ≡ isCovered outcome ⌝ }
+{
+    match outcome {
+        Outcome::NotRetained => false,
+        Outcome::Skipped => false,
+        Outcome::Empty => false,
+        Outcome::TooLong => false,
+        Outcome::Covered => true,
+        Outcome::BadMapping => false,
+        Outcome::Served(_) => false,
+        Outcome::Made(_) => false,
+    }
+}
+
+fn came_to_nothing(outcome: Outcome) -> bool
+    ensures { λ r. ⌜ r ≡ cameToNothing outcome ⌝ }
+{
+    match outcome {
+        Outcome::NotRetained => false,
+        Outcome::Skipped => true,
+        Outcome::Empty => true,
+        Outcome::TooLong => true,
+        Outcome::Covered => false,
+        Outcome::BadMapping => true,
+        Outcome::Served(_) => false,
+        Outcome::Made(_) => false,
+    }
+}
+
 // Whether the table that record r made, if it made one, is of record k's format.
 fn serves(s: &[u8], os: [Outcome; 64], k: usize, r: usize) -> bool
     requires { ⌜ Two (now s) k r ⌝ }
@@ -186,6 +218,120 @@ fn server(s: &[u8], os: [Outcome; 64], k: usize) -> usize
     r
 }
 
+// Whether record r has record k's pair and offset.
+fn is_twin(s: &[u8], k: usize, r: usize) -> bool
+    requires { ⌜ Two (now s) k r ⌝ }
+    ensures { λ t. ⌜ t ≡ isTwin (now (s .entry)) k r ⌝ }
+{
+    let record = records::encoding_record(s, k);
+    if records::is_pair(s, r, record.platform, record.encoding) {
+        return source::offset_of(s, r) == record.offset;
+    }
+    false
+}
+
+// The first earlier record of record k's pair and offset; k where there is none.
+fn twin(s: &[u8], k: usize) -> usize
+    requires { ⌜ Placed (now s) k ⌝ }
+    requires { ⌜ k < 64 ⌝ }
+    ensures { λ r. ⌜ r ≡ twin (now (s .entry)) k ⌝ }
+{
+    let mut r = 0;
+    while r < k {
+        if is_twin(s, k, r) {
+            return r;
+        }
+        r += 1;
+    }
+    r
+}
+
+// Whether record k is covered; where an earlier record is of its pair and offset, that one tells.
+fn is_dropped(
+    s: &[u8],
+    m: usize,
+    k: usize,
+    n: u32,
+    kept: &[u32],
+    flags: &mut [u8],
+    others: &mut [u8],
+    os: [Outcome; 64],
+) -> bool
+    requires { ⌜ Rooms (now s) m k n (now kept) (now flags) (now others) ⌝ }
+    requires { ⌜ Tells (now s) n (now kept) os k ⌝ }
+    ensures { λ t. ⌜ t ≡ covered (now (s .entry)) n (now (kept .entry)) k ⌝ }
+{
+    let r = twin(s, k);
+    if r < k {
+        return is_covered(os[r]);
+    }
+    covering::can_drop_format12(s, m, k, n, kept, flags, others)
+}
+
+// Whether record r leads to the subtable of record k, and that came to nothing.
+fn is_spent(s: &[u8], os: [Outcome; 64], k: usize, r: usize) -> bool
+    requires { ⌜ Two (now s) k r ⌝ }
+    ensures { λ t. ⌜ t ≡ isSpent (now (s .entry)) os k r ⌝ }
+{
+    let o = os[r];
+    if came_to_nothing(o) {
+        return source::offset_of(s, r) == source::offset_of(s, k);
+    }
+    false
+}
+
+// The first such record before k; k where there is none.
+fn spent(s: &[u8], os: [Outcome; 64], k: usize) -> usize
+    requires { ⌜ Placed (now s) k ⌝ }
+    requires { ⌜ k < 64 ⌝ }
+    ensures { λ r. ⌜ r ≡ spent (now (s .entry)) os k ⌝ }
+{
+    let mut r = 0;
+    while r < k {
+        if is_spent(s, os, k, r) {
+            return r;
+        }
+        r += 1;
+    }
+    r
+}
+
+// The same as `fresh`; no subtable is walked again that came to nothing for an earlier record.
+fn unserved_outcome(
+    s: &[u8],
+    codes: &[u32],
+    glyphs: &[u16],
+    kept: &[u32],
+    map: &[u16],
+    requested: &[u16],
+    flags: &mut [u8],
+    tocodes: &mut [u32],
+    toglyphs: &mut [u16],
+    os: [Outcome; 64],
+    k: usize,
+) -> Outcome
+    requires { ⌜ Earlier (job (now s) (now codes) (now glyphs) (now kept) (now map) (now requested)) os k ⌝ }
+    requires { ⌜ Ready (job (now s) (now codes) (now glyphs) (now kept) (now map) (now requested)) k (now flags) (now tocodes) (now toglyphs) ⌝ }
+    ensures { λ r. ⌜ (r ≡ fresh (job (now (s .entry)) (now (codes .entry)) (now (glyphs .entry)) (now (kept .entry)) (now (map .entry)) (now (requested .entry))) k) × Short r ⌝ }
+{
+    let r = spent(s, os, k);
+    if r < k {
+        return os[r];
+    }
+    fresh(
+        s,
+        codes,
+        glyphs,
+        kept,
+        map,
+        requested,
+        flags,
+        tocodes,
+        toglyphs,
+        k,
+    )
+}
+
 fn retained_outcome(
     s: &[u8],
     m: usize,
@@ -201,20 +347,21 @@ fn retained_outcome(
     os: [Outcome; 64],
     k: usize,
 ) -> Outcome
+    requires { ⌜ Earlier (job (now s) (now codes) (now glyphs) (now kept) (now map) (now requested)) os k ⌝ }
     requires { ⌜ Ready (job (now s) (now codes) (now glyphs) (now kept) (now map) (now requested)) k (now flags) (now tocodes) (now toglyphs) ⌝ }
     requires { ⌜ Rooms (now s) m k (length (now map)) (now kept) (now flags) (now others) ⌝ }
-    requires { ⌜ k < 64 ⌝ }
+    requires { ⌜ retained (now s) k ≡ true ⌝ }
     ensures { λ r. ⌜ (r ≡ retainedOutcome (job (now (s .entry)) (now (codes .entry)) (now (glyphs .entry)) (now (kept .entry)) (now (map .entry)) (now (requested .entry))) os k) × Short r ⌝ }
 {
     let n = map.len() as u32;
-    if covering::can_drop_format12(s, m, k, n, kept, flags, others) {
+    if is_dropped(s, m, k, n, kept, flags, others, os) {
         return Outcome::Covered;
     }
     let r = server(s, os, k);
     if r < k {
         return Outcome::Served(r);
     }
-    fresh(
+    unserved_outcome(
         s,
         codes,
         glyphs,
@@ -224,6 +371,7 @@ fn retained_outcome(
         flags,
         tocodes,
         toglyphs,
+        os,
         k,
     )
 }
@@ -244,9 +392,9 @@ fn outcome_of(
     os: [Outcome; 64],
     k: usize,
 ) -> Outcome
+    requires { ⌜ Earlier (job (now s) (now codes) (now glyphs) (now kept) (now map) (now requested)) os k ⌝ }
     requires { ⌜ Ready (job (now s) (now codes) (now glyphs) (now kept) (now map) (now requested)) k (now flags) (now tocodes) (now toglyphs) ⌝ }
     requires { ⌜ Rooms (now s) m k (length (now map)) (now kept) (now flags) (now others) ⌝ }
-    requires { ⌜ k < 64 ⌝ }
     ensures { λ r. ⌜ (r ≡ outcomeOf (job (now (s .entry)) (now (codes .entry)) (now (glyphs .entry)) (now (kept .entry)) (now (map .entry)) (now (requested .entry))) os k) × Short r ⌝ }
 {
     if records::retain_encoding_record_for_subset(s, k) {

@@ -1,13 +1,9 @@
 -- What refusals 1 to 7 leave for the rest of a call: the header is there, and the work room is enough.
-use Prim.Native.Nat.{ℕ, _≤_, _<_}
-use mathlib.Core.Path.{_≡_, refl, sym, ap, subst, _∙_}
+use Prim.Native.Nat.{ℕ, _≤_}
+use mathlib.Core.Path.{_≡_, refl}
 use mathlib.Core.List.{List}
-use mathlib.Core.Bool.{Bool, true}
 use native.Mathlib.Omega.{arith}
-use lib.Dec.{leb}
 use lib.ListN.{length}
-use borrow.Author.Tests.{leb-true}
-use Rattle.laws.proofs.ChoiceLaws.{both-left, both-right}
 use Rattle.source.specs.Header.{recordCount}
 use Rattle.source.proofs.HeaderLaws.{Accepted, accepted-of}
 use Rattle.records.specs.Records.{Counted}
@@ -51,10 +47,16 @@ module _ (s cs gs ks ms rs : List ℕ) where
           rw e (early-prepared j flags others tocodes toglyphs (p .passed) (omega (arith, f, l .few-pairs)) (omega (arith, f, l .kept-few)) (omega (arith, o, l .kept-few))
           (omega (arith, c, l .few-pairs)) (omega (arith, g, l .few-pairs)))
 
-      pub small-room : Few cs ks → length flags ≡ 4096 → length others ≡ 4096 → length tocodes ≡ 2048 → length toglyphs ≡ 2048 → Prepared j m flags others tocodes toglyphs
-      small-room q f o c g =
-          rw e (early-prepared j flags others tocodes toglyphs (p .passed) (omega (arith, f, q .pairs)) (omega (arith, f, q .points)) (omega (arith, o, q .points))
+      few-room : (a b : ℕ) → b ≤ a → Few a b cs ks → length flags ≡ a → length others ≡ a → length tocodes ≡ b → length toglyphs ≡ b → Prepared j m flags others tocodes toglyphs
+      few-room a b h q f o c g =
+          rw e (early-prepared j flags others tocodes toglyphs (p .passed) (omega (arith, f, h, q .pairs)) (omega (arith, f, q .points)) (omega (arith, o, q .points))
           (omega (arith, c, q .pairs)) (omega (arith, g, q .pairs)))
+
+      pub small-room : Few 4096 2048 cs ks → length flags ≡ 4096 → length others ≡ 4096 → length tocodes ≡ 2048 → length toglyphs ≡ 2048 → Prepared j m flags others tocodes toglyphs
+      small-room = few-room 4096 2048 (omega arith)
+
+      pub middle-room : Few 32768 16384 cs ks → length flags ≡ 32768 → length others ≡ 32768 → length tocodes ≡ 16384 → length toglyphs ≡ 16384 → Prepared j m flags others tocodes toglyphs
+      middle-room = few-room 32768 16384 (omega arith)
 
   module _ (os : List Outcome) (p : Planned j os) where
     pub planned-long : 4 ≤ length s
@@ -70,22 +72,16 @@ module _ (s cs gs ks ms rs : List ℕ) where
     planned-counts count e h = record { small = p .small; is = e; few = h }
 
     module _ (count : ℕ) (c : Counts os count) (flags tocodes toglyphs : List ℕ) where
+      writing-in : Prepared j (recordCount s) flags flags tocodes toglyphs → Written j os count flags tocodes toglyphs
+      writing-in r = record { m = recordCount s; others = flags; prepared = r; is = p .is; counts = c }
+
       pub full-writing : length flags ≡ 131072 → length tocodes ≡ 65535 → length toglyphs ≡ 65535 → Written j os count flags tocodes toglyphs
-      full-writing f t g = record {
-        m = recordCount s;
-        others = flags;
-        prepared = full-room (p .passing) (recordCount s) refl flags flags tocodes toglyphs f f t g;
-        is = p .is;
-        counts = c;
-      }
+      full-writing f t g = writing-in (full-room (p .passing) (recordCount s) refl flags flags tocodes toglyphs f f t g)
 
-      pub small-writing : Few cs ks → length flags ≡ 4096 → length tocodes ≡ 2048 → length toglyphs ≡ 2048 → Written j os count flags tocodes toglyphs
-      small-writing q f t g = record {
-        m = recordCount s;
-        others = flags;
-        prepared = small-room (p .passing) (recordCount s) refl flags flags tocodes toglyphs q f f t g;
-        is = p .is;
-        counts = c;
-      }
+      pub small-writing : Few 4096 2048 cs ks → length flags ≡ 4096 → length tocodes ≡ 2048 → length toglyphs ≡ 2048 → Written j os count flags tocodes toglyphs
+      small-writing q f t g = writing-in (small-room (p .passing) (recordCount s) refl flags flags tocodes toglyphs q f f t g)
 
-pub ruleset passing = (passes, source-long, planned, full-room, small-room, planned-long, planned-counted, planned-few, planned-counts, full-writing, small-writing)
+      pub middle-writing : Few 32768 16384 cs ks → length flags ≡ 32768 → length tocodes ≡ 16384 → length toglyphs ≡ 16384 → Written j os count flags tocodes toglyphs
+      middle-writing q f t g = writing-in (middle-room (p .passing) (recordCount s) refl flags flags tocodes toglyphs q f f t g)
+
+pub ruleset passing = (passes, source-long, planned, full-room, small-room, middle-room, planned-long, planned-counted, planned-few, planned-counts, full-writing, small-writing, middle-writing)

@@ -18,7 +18,7 @@ pub record Planned (j : Job) (os : List Outcome) : Type 0 where
   pub is : os ≡ plan j
   pub small : Small os
 
--- the small work room is enough
-pub record Few (codes kept : List ℕ) : Type 0 where
-  pub points : length kept ≤ 4096
-  pub pairs : length codes ≤ 2048
+-- so many flags and places for pairs are enough
+pub record Few (flags places : ℕ) (codes kept : List ℕ) : Type 0 where
+  pub points : length kept ≤ flags
+  pub pairs : length codes ≤ places

@@ -18,6 +18,11 @@ const SMALL_KEPT: usize = 4096;
 
 const SMALL_PAIRS: usize = 2048;
 
+// Work room that is enough for most of the larger ones.
+const MIDDLE_KEPT: usize = 32768;
+
+const MIDDLE_PAIRS: usize = 16384;
+
 pub fn record_count(s: &[u8]) -> usize
     requires { ⌜ 4 ≤ length (now s) ⌝ }
     ensures { λ r. ⌜ r ≡ recordCount (now (s .entry)) ⌝ }
@@ -85,6 +90,89 @@ fn plan_in_full_room(
     )
 }
 
+fn plan_on_middle_room(
+    s: &[u8],
+    codes: &[u32],
+    glyphs: &[u16],
+    kept: &[u32],
+    map: &[u16],
+    requested: &[u16],
+    flags: &mut [u8; MIDDLE_KEPT],
+    others: &mut [u8; MIDDLE_KEPT],
+    tocodes: &mut [u32; MIDDLE_PAIRS],
+    toglyphs: &mut [u16; MIDDLE_PAIRS],
+) -> [Outcome; 64]
+    requires { ⌜ Passing (job (now s) (now codes) (now glyphs) (now kept) (now map) (now requested)) ⌝ }
+    requires { ⌜ Few 32768 16384 (now codes) (now kept) ⌝ }
+    ensures { λ r. ⌜ (r ≡ plan (job (now (s .entry)) (now (codes .entry)) (now (glyphs .entry)) (now (kept .entry)) (now (map .entry)) (now (requested .entry)))) × Small r ⌝ }
+{
+    let m = record_count(s);
+    plan::plan(
+        s,
+        m,
+        codes,
+        glyphs,
+        kept,
+        map,
+        requested,
+        flags,
+        others,
+        tocodes,
+        toglyphs,
+    )
+}
+
+fn plan_in_middle_room(
+    s: &[u8],
+    codes: &[u32],
+    glyphs: &[u16],
+    kept: &[u32],
+    map: &[u16],
+    requested: &[u16],
+) -> [Outcome; 64]
+    requires { ⌜ Passing (job (now s) (now codes) (now glyphs) (now kept) (now map) (now requested)) ⌝ }
+    requires { ⌜ Few 32768 16384 (now codes) (now kept) ⌝ }
+    ensures { λ r. ⌜ (r ≡ plan (job (now (s .entry)) (now (codes .entry)) (now (glyphs .entry)) (now (kept .entry)) (now (map .entry)) (now (requested .entry)))) × Small r ⌝ }
+{
+    let mut flags = [0u8; MIDDLE_KEPT];
+    let mut others = [0u8; MIDDLE_KEPT];
+    let mut tocodes = [0u32; MIDDLE_PAIRS];
+    let mut toglyphs = [0u16; MIDDLE_PAIRS];
+    plan_on_middle_room(
+        s,
+        codes,
+        glyphs,
+        kept,
+        map,
+        requested,
+        &mut flags,
+        &mut others,
+        &mut tocodes,
+        &mut toglyphs,
+    )
+}
+
+// What a job asks for that is not small: as it is called from two places, a small job does not touch its work room.
+fn plan_in_large_room(
+    s: &[u8],
+    codes: &[u32],
+    glyphs: &[u16],
+    kept: &[u32],
+    map: &[u16],
+    requested: &[u16],
+) -> [Outcome; 64]
+    requires { ⌜ Passing (job (now s) (now codes) (now glyphs) (now kept) (now map) (now requested)) ⌝ }
+    ensures { λ r. ⌜ (r ≡ plan (job (now (s .entry)) (now (codes .entry)) (now (glyphs .entry)) (now (kept .entry)) (now (map .entry)) (now (requested .entry)))) × Small r ⌝ }
+{
+    if MIDDLE_KEPT < kept.len() {
+        return plan_in_full_room(s, codes, glyphs, kept, map, requested);
+    }
+    if MIDDLE_PAIRS < codes.len() {
+        return plan_in_full_room(s, codes, glyphs, kept, map, requested);
+    }
+    plan_in_middle_room(s, codes, glyphs, kept, map, requested)
+}
+
 fn plan_on_small_room(
     s: &[u8],
     codes: &[u32],
@@ -98,7 +186,7 @@ fn plan_on_small_room(
     toglyphs: &mut [u16; SMALL_PAIRS],
 ) -> [Outcome; 64]
     requires { ⌜ Passing (job (now s) (now codes) (now glyphs) (now kept) (now map) (now requested)) ⌝ }
-    requires { ⌜ Few (now codes) (now kept) ⌝ }
+    requires { ⌜ Few 4096 2048 (now codes) (now kept) ⌝ }
     ensures { λ r. ⌜ (r ≡ plan (job (now (s .entry)) (now (codes .entry)) (now (glyphs .entry)) (now (kept .entry)) (now (map .entry)) (now (requested .entry)))) × Small r ⌝ }
 {
     let m = record_count(s);
@@ -126,7 +214,7 @@ fn plan_in_small_room(
     requested: &[u16],
 ) -> [Outcome; 64]
     requires { ⌜ Passing (job (now s) (now codes) (now glyphs) (now kept) (now map) (now requested)) ⌝ }
-    requires { ⌜ Few (now codes) (now kept) ⌝ }
+    requires { ⌜ Few 4096 2048 (now codes) (now kept) ⌝ }
     ensures { λ r. ⌜ (r ≡ plan (job (now (s .entry)) (now (codes .entry)) (now (glyphs .entry)) (now (kept .entry)) (now (map .entry)) (now (requested .entry)))) × Small r ⌝ }
 {
     let mut flags = [0u8; SMALL_KEPT];
@@ -160,10 +248,10 @@ pub fn outcomes(
     ensures { λ r. ⌜ (r ≡ plan (job (now (s .entry)) (now (codes .entry)) (now (glyphs .entry)) (now (kept .entry)) (now (map .entry)) (now (requested .entry)))) × Small r ⌝ }
 {
     if SMALL_KEPT < kept.len() {
-        return plan_in_full_room(s, codes, glyphs, kept, map, requested);
+        return plan_in_large_room(s, codes, glyphs, kept, map, requested);
     }
     if SMALL_PAIRS < codes.len() {
-        return plan_in_full_room(s, codes, glyphs, kept, map, requested);
+        return plan_in_large_room(s, codes, glyphs, kept, map, requested);
     }
     plan_in_small_room(s, codes, glyphs, kept, map, requested)
 }
@@ -238,6 +326,105 @@ fn write_in_full_room(
     )
 }
 
+fn write_on_middle_room(
+    out: &mut [u8],
+    s: &[u8],
+    codes: &[u32],
+    glyphs: &[u16],
+    kept: &[u32],
+    map: &[u16],
+    requested: &[u16],
+    flags: &mut [u8; MIDDLE_KEPT],
+    tocodes: &mut [u32; MIDDLE_PAIRS],
+    toglyphs: &mut [u16; MIDDLE_PAIRS],
+    os: [Outcome; 64],
+    count: usize,
+)
+    requires { ⌜ Planned (job (now s) (now codes) (now glyphs) (now kept) (now map) (now requested)) os ⌝ }
+    requires { ⌜ Counts os count ⌝ }
+    requires { ⌜ resultLength os ≤ length (now out) ⌝ }
+    requires { ⌜ Few 32768 16384 (now codes) (now kept) ⌝ }
+    ensures { λ _. ⌜ now (out .exit) ≡ sets (now (out .entry)) 0 (resultOf (job (now (s .entry)) (now (codes .entry)) (now (glyphs .entry)) (now (kept .entry)) (now (map .entry)) (now (requested .entry))) os) ⌝ }
+{
+    writing::serialize_cmap(
+        out,
+        s,
+        codes,
+        glyphs,
+        kept,
+        map,
+        requested,
+        flags,
+        tocodes,
+        toglyphs,
+        os,
+        count,
+    )
+}
+
+fn write_in_middle_room(
+    out: &mut [u8],
+    s: &[u8],
+    codes: &[u32],
+    glyphs: &[u16],
+    kept: &[u32],
+    map: &[u16],
+    requested: &[u16],
+    os: [Outcome; 64],
+    count: usize,
+)
+    requires { ⌜ Planned (job (now s) (now codes) (now glyphs) (now kept) (now map) (now requested)) os ⌝ }
+    requires { ⌜ Counts os count ⌝ }
+    requires { ⌜ resultLength os ≤ length (now out) ⌝ }
+    requires { ⌜ Few 32768 16384 (now codes) (now kept) ⌝ }
+    ensures { λ _. ⌜ now (out .exit) ≡ sets (now (out .entry)) 0 (resultOf (job (now (s .entry)) (now (codes .entry)) (now (glyphs .entry)) (now (kept .entry)) (now (map .entry)) (now (requested .entry))) os) ⌝ }
+{
+    let mut flags = [0u8; MIDDLE_KEPT];
+    let mut tocodes = [0u32; MIDDLE_PAIRS];
+    let mut toglyphs = [0u16; MIDDLE_PAIRS];
+    write_on_middle_room(
+        out,
+        s,
+        codes,
+        glyphs,
+        kept,
+        map,
+        requested,
+        &mut flags,
+        &mut tocodes,
+        &mut toglyphs,
+        os,
+        count,
+    )
+}
+
+fn write_in_large_room(
+    out: &mut [u8],
+    s: &[u8],
+    codes: &[u32],
+    glyphs: &[u16],
+    kept: &[u32],
+    map: &[u16],
+    requested: &[u16],
+    os: [Outcome; 64],
+    count: usize,
+)
+    requires { ⌜ Planned (job (now s) (now codes) (now glyphs) (now kept) (now map) (now requested)) os ⌝ }
+    requires { ⌜ Counts os count ⌝ }
+    requires { ⌜ resultLength os ≤ length (now out) ⌝ }
+    ensures { λ _. ⌜ now (out .exit) ≡ sets (now (out .entry)) 0 (resultOf (job (now (s .entry)) (now (codes .entry)) (now (glyphs .entry)) (now (kept .entry)) (now (map .entry)) (now (requested .entry))) os) ⌝ }
+{
+    if MIDDLE_KEPT < kept.len() {
+        write_in_full_room(out, s, codes, glyphs, kept, map, requested, os, count);
+        return;
+    }
+    if MIDDLE_PAIRS < codes.len() {
+        write_in_full_room(out, s, codes, glyphs, kept, map, requested, os, count);
+        return;
+    }
+    write_in_middle_room(out, s, codes, glyphs, kept, map, requested, os, count);
+}
+
 fn write_on_small_room(
     out: &mut [u8],
     s: &[u8],
@@ -255,7 +442,7 @@ fn write_on_small_room(
     requires { ⌜ Planned (job (now s) (now codes) (now glyphs) (now kept) (now map) (now requested)) os ⌝ }
     requires { ⌜ Counts os count ⌝ }
     requires { ⌜ resultLength os ≤ length (now out) ⌝ }
-    requires { ⌜ Few (now codes) (now kept) ⌝ }
+    requires { ⌜ Few 4096 2048 (now codes) (now kept) ⌝ }
     ensures { λ _. ⌜ now (out .exit) ≡ sets (now (out .entry)) 0 (resultOf (job (now (s .entry)) (now (codes .entry)) (now (glyphs .entry)) (now (kept .entry)) (now (map .entry)) (now (requested .entry))) os) ⌝ }
 {
     writing::serialize_cmap(
@@ -288,7 +475,7 @@ fn write_in_small_room(
     requires { ⌜ Planned (job (now s) (now codes) (now glyphs) (now kept) (now map) (now requested)) os ⌝ }
     requires { ⌜ Counts os count ⌝ }
     requires { ⌜ resultLength os ≤ length (now out) ⌝ }
-    requires { ⌜ Few (now codes) (now kept) ⌝ }
+    requires { ⌜ Few 4096 2048 (now codes) (now kept) ⌝ }
     ensures { λ _. ⌜ now (out .exit) ≡ sets (now (out .entry)) 0 (resultOf (job (now (s .entry)) (now (codes .entry)) (now (glyphs .entry)) (now (kept .entry)) (now (map .entry)) (now (requested .entry))) os) ⌝ }
 {
     let mut flags = [0u8; SMALL_KEPT];
@@ -328,11 +515,11 @@ pub fn write_result(
     ensures { λ _. ⌜ now (out .exit) ≡ sets (now (out .entry)) 0 (resultOf (job (now (s .entry)) (now (codes .entry)) (now (glyphs .entry)) (now (kept .entry)) (now (map .entry)) (now (requested .entry))) os) ⌝ }
 {
     if SMALL_KEPT < kept.len() {
-        write_in_full_room(out, s, codes, glyphs, kept, map, requested, os, count);
+        write_in_large_room(out, s, codes, glyphs, kept, map, requested, os, count);
         return;
     }
     if SMALL_PAIRS < codes.len() {
-        write_in_full_room(out, s, codes, glyphs, kept, map, requested, os, count);
+        write_in_large_room(out, s, codes, glyphs, kept, map, requested, os, count);
         return;
     }
     write_in_small_room(out, s, codes, glyphs, kept, map, requested, os, count);

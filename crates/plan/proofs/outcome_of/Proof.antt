@@ -7,7 +7,7 @@ retain-encoding-record-for-subset-requires : tie.Need-retain-encoding-record-for
 retain-encoding-record-for-subset-requires c κs = search needs
 
 retained-outcome-requires : tie.Need-retained-outcome-requires
-retained-outcome-requires c κs = search needs
+retained-outcome-requires c κs = (search needs, (search needs, (search needs, search outcome-rules)))
 
 same-length : tie.Need-same-length
 same-length c = search needs

@@ -1,13 +1,14 @@
-use Rattle.plan.proofs.OutcomeLaws.{outcome-rules, ready-again}
 use borrow.Author.Needs.{needs}
 use Rattle.plan.proofs.retained_outcome.Statement.{statement}
 use Rattle.plan.proofs.retained_outcome.Tie as tie
+use Rattle.plan.proofs.TwinLaws.{twins}
+use Rattle.plan.proofs.OutcomeLaws.{outcome-rules, ready-again}
 
 cast-n : tie.Need-cast-n
 cast-n c = search needs
 
-can-drop-format12-requires : tie.Need-can-drop-format12-requires
-can-drop-format12-requires c κs = search needs
+is-dropped-requires : tie.Need-is-dropped-requires
+is-dropped-requires c κs = (search needs, search twins)
 
 same-length : tie.Need-same-length
 same-length c = search needs
@@ -30,8 +31,8 @@ same-length-4 c = search needs
 returns-2 : tie.Need-returns-2
 returns-2 c = (search outcome-rules, search needs)
 
-fresh-requires : tie.Need-fresh-requires
-fresh-requires c κs = search ready-again
+unserved-outcome-requires : tie.Need-unserved-outcome-requires
+unserved-outcome-requires c κs = (search needs, search ready-again)
 
 same-length-5 : tie.Need-same-length-5
 same-length-5 c = search needs
@@ -53,7 +54,7 @@ retained-outcome-spec =
     tie.close
     (tie.spec
     cast-n
-    can-drop-format12-requires
+    is-dropped-requires
     same-length
     same-length-2
     returns
@@ -61,7 +62,7 @@ retained-outcome-spec =
     same-length-3
     same-length-4
     returns-2
-    fresh-requires
+    unserved-outcome-requires
     same-length-5
     same-length-6
     same-length-7

@@ -3,8 +3,8 @@ use Rattle.rooms.proofs.write_result.Statement.{statement}
 use Rattle.rooms.proofs.write_result.Tie as tie
 use native.Mathlib.Omega.{arith}
 
-write-in-full-room-requires : tie.Need-write-in-full-room-requires
-write-in-full-room-requires c κs = search needs
+write-in-large-room-requires : tie.Need-write-in-large-room-requires
+write-in-large-room-requires c κs = search needs
 
 same-length : tie.Need-same-length
 same-length c = search needs
@@ -12,8 +12,8 @@ same-length c = search needs
 returns : tie.Need-returns
 returns c = search needs
 
-write-in-full-room-requires-2 : tie.Need-write-in-full-room-requires-2
-write-in-full-room-requires-2 c κs = search needs
+write-in-large-room-requires-2 : tie.Need-write-in-large-room-requires-2
+write-in-large-room-requires-2 c κs = search needs
 
 same-length-2 : tie.Need-same-length-2
 same-length-2 c = search needs
@@ -34,10 +34,10 @@ pub write-result-spec : {M : Type 1} → statement M
 write-result-spec =
     tie.close
     (tie.spec
-    write-in-full-room-requires
+    write-in-large-room-requires
     same-length
     returns
-    write-in-full-room-requires-2
+    write-in-large-room-requires-2
     same-length-2
     returns-2
     write-in-small-room-requires

@@ -1,0 +1,107 @@
+-- The row of outcomes: what is worked out stays, and by which way it came.
+use Prim.Native.Nat.{ℕ, zero, suc, _<_, _≤_}
+use mathlib.Core.Path.{_≡_, refl, _∙_}
+use mathlib.Core.List.{List}
+use mathlib.Core.Bool.{Bool, true, false}
+use native.Mathlib.Omega.{arith}
+use lib.Dec.{ltb}
+use lib.ListN.{length, getD, replicate, length-set, length-replicate}
+use lib.Seq.{getD-set-same, getD-set-other}
+use borrow.Author.Tests.{ltb-true, ltb-false}
+use Rattle.laws.specs.Choice.{pick}
+use Rattle.laws.specs.Search.{first}
+use Rattle.laws.proofs.ChoiceLaws.{by-pick, by-leb}
+use Rattle.number.specs.Limits.{recordsMax}
+use Rattle.source.specs.declared.Kind.{Kind}
+use Rattle.source.specs.declared.Kind.the-variants.{Format4, Format12, Format14, Unreadable}
+use Rattle.records.specs.Records.{leadsTo, retained}
+use Rattle.listing.specs.Job.{Job, glyphCount}
+use Rattle.covering.specs.Covered.{covered}
+use Rattle.format4.specs.declared.Size.{Size}
+use Rattle.format4.specs.declared.Size.the-variants.{Empty as Empty4, TooLong as TooLong4, Fits}
+use Rattle.format4.specs.Size.{sizeOf as sizeOf4, lengthOf as lengthOf4}
+use Rattle.format12.specs.Format12.{sizeOf as sizeOf12}
+use Rattle.format14.specs.declared.Outcome.{Outcome as Outcome14}
+use Rattle.format14.specs.declared.Outcome.the-variants.{Refused8, Empty as Empty14, Length}
+use Rattle.format14.specs.Format14.{outcome as outcome14}
+use Rattle.plan.specs.declared.Outcome.{Outcome}
+use Rattle.plan.specs.declared.Outcome.the-variants.{NotRetained, Skipped, Empty, TooLong, Covered, BadMapping, Served, Made}
+use Rattle.plan.specs.Plan.{server as earliest, retainedOutcome, listedOf, givenOf, by4, by14, freshAs, fresh, serves, outcomeOf, outcomes}
+
+-- ---- the row of outcomes
+
+none-there : (n k : ℕ) → getD (replicate n NotRetained) k NotRetained ≡ NotRetained
+none-there zero k = refl
+none-there (suc n) zero = refl
+none-there (suc n) (suc k) = none-there n k
+
+module _ (j : Job) where
+  length-outcomes : (m : ℕ) → length (outcomes j m) ≡ recordsMax
+  unfolding outcomes
+  length-outcomes zero = length-replicate recordsMax NotRetained
+  length-outcomes (suc m) = rw length-set (length-outcomes m)
+
+  -- records from m on are not worked out yet
+  pub outcome-past : (m k : ℕ) → m ≤ k → getD (outcomes j m) k NotRetained ≡ NotRetained
+  unfolding outcomes
+  outcome-past zero k h = none-there recordsMax k
+  outcome-past (suc m) k h = getD-set-other (outcomes j m) m k (outcomeOf j (outcomes j m) m) NotRetained (λ e. omega arith) ∙ outcome-past m k (omega arith)
+
+  -- those before it keep what was worked out
+  pub outcome-at : (m k : ℕ) → k < m → m ≤ recordsMax → getD (outcomes j m) k NotRetained ≡ outcomeOf j (outcomes j k) k
+  unfolding outcomes
+  outcome-at zero k h l = absurd (omega arith)
+  outcome-at (suc m) k h l =
+      by-leb (getD (outcomes j (suc m)) k NotRetained ≡ outcomeOf j (outcomes j k) k) m k
+      (λ a.
+      let same : k ≡ m = omega arith in
+      rw same (getD-set-same (outcomes j m) m (outcomeOf j (outcomes j m) m) NotRetained (omega (arith, length-outcomes m))))
+      (λ a. getD-set-other (outcomes j m) m k (outcomeOf j (outcomes j m) m) NotRetained (λ e. omega arith) ∙ outcome-at m k a (omega arith))
+
+-- ---- by outcome
+
+module _ (j : Job) (os : List Outcome) (k : ℕ) where
+  -- the first record before k whose table would serve it; k if there is none
+  abbrev pub server : ℕ
+  server = first (serves (j .source) os k) k 0
+
+  abbrev pub keeps : Bool
+  keeps = retained (j .source) k
+
+  abbrev pub covers : Bool
+  covers = covered (j .source) (glyphCount j) (j .kept) k
+
+  pub by-outcome : (P : Outcome → Type 0) → (keeps ≡ false → P NotRetained) → (keeps ≡ true → covers ≡ true → P Covered)
+      → (keeps ≡ true → covers ≡ false → server < k → P (Served server)) → (keeps ≡ true → covers ≡ false → k ≤ server → P (fresh j k)) → P (outcomeOf j os k)
+  unfolding outcomeOf retainedOutcome earliest
+  by-outcome P a b c d =
+      by-pick P keeps (pick covers Covered (pick (ltb server k) (Served server) (fresh j k))) NotRetained
+      (λ e. by-pick P covers Covered (pick (ltb server k) (Served server) (fresh j k))
+      (λ f. b e f)
+      (λ f. by-pick P (ltb server k) (Served server) (fresh j k)
+      (λ g. c e f (ltb-true server k g))
+      (λ g. d e f (ltb-false server k g))))
+      a
+
+-- ---- what is never fresh
+
+pub fresh-never : (j : Job) (k : ℕ) (p : Outcome → Bool) → p Skipped ≡ false → p Empty ≡ false → p TooLong ≡ false → p BadMapping ≡ false → ((n : ℕ) → p (Made n) ≡ false)
+    → p (fresh j k) ≡ false
+unfolding fresh
+fresh-never j k p skipped empty long bad made = go (leadsTo (j .source) k)
+  where
+    size4 : (size : Size) → p (by4 size) ≡ false
+    size4 Empty4 = empty
+    size4 TooLong4 = long
+    size4 (Fits c) = made (lengthOf4 c)
+
+    size14 : (o : Outcome14) → p (by14 o) ≡ false
+    size14 Refused8 = bad
+    size14 Empty14 = empty
+    size14 (Length n) = made n
+
+    go : (kind : Kind) → p (freshAs kind j k) ≡ false
+    go (Format4 language s len) = size4 (sizeOf4 (listedOf j k))
+    go (Format12 language g len) = made (sizeOf12 (listedOf j k) .bytes)
+    go (Format14 r len) = size14 (outcome14 (givenOf j k len))
+    go Unreadable = skipped

@@ -1,0 +1,188 @@
+-- What earlier records of the same pair or subtable tell of a record.
+use Prim.Native.Nat.{ℕ, _<_}
+use mathlib.Core.Path.{_≡_, refl, sym, ap, _∙_}
+use mathlib.Core.List.{List}
+use mathlib.Core.Bool.{Bool, true, false}
+use native.Mathlib.Omega.{arith}
+use lib.Dec.{leb, eqb}
+use lib.ListN.{length, getD}
+use borrow.Author.Tests.{eqb-true}
+use Rattle.laws.specs.Choice.{both}
+use Rattle.laws.specs.Lists.{Pair, pairs}
+use Rattle.laws.specs.Select.{select, anyOf, eqList}
+use Rattle.laws.proofs.ChoiceLaws.{both-left, both-right, false-true}
+use Rattle.laws.proofs.FirstLaws.{first-ext, first-holds}
+use Rattle.laws.proofs.SearchLaws.{Finding, looking-start, looks}
+use Rattle.source.specs.declared.Kind.{Kind}
+use Rattle.source.specs.declared.Kind.the-variants.{Format4, Format12, Format14, Unreadable}
+use Rattle.source.specs.declared.EncodingRecord.{EncodingRecord}
+use Rattle.source.specs.Header.{recordCount, platformOf, encodingOf, offsetOf, recordOf}
+use Rattle.source.specs.Kind.{kindAt}
+use Rattle.records.specs.Records.{leadsTo, isPair, bmpPair, fullPair, retained}
+use Rattle.covering.specs.Covered.{isSibling, firstSibling, reachesAbove, mapAlike, siblingCovers, covered}
+use Rattle.listing.specs.Job.{Job, job, glyphCount}
+use Rattle.listing.specs.Listing.{mapsAs, maps, listed}
+use Rattle.format4.specs.Size.{sizeOf as sizeOf4}
+use Rattle.format12.specs.Format12.{sizeOf as sizeOf12}
+use Rattle.selector_tables.specs.Selectors.{given}
+use Rattle.format14.specs.Format14.{outcome as outcome14}
+use Rattle.plan.specs.declared.Outcome.{Outcome}
+use Rattle.plan.specs.declared.Outcome.the-variants.{NotRetained, Made}
+use Rattle.plan.specs.Plan.{listedOf, by4, by14, freshAs, fresh, outcomes, Short}
+use Rattle.plan.specs.Twins.{isCovered, cameToNothing, isTwin, twin, isSpent, spent, Earlier, Tells}
+use Rattle.plan.proofs.RowLaws.{outcome-at, by-outcome, covers, fresh-never}
+use Rattle.plan.proofs.ServesLaws.{two}
+
+-- ---- the searches, read off the code's answers
+
+module _ (xs : List ℕ) (k r : ℕ) (e : EncodingRecord) (t : Bool) (q : e ≡ recordOf xs k) (p : t ≡ isPair (e .platform) (e .encoding) xs r) where
+  asked : t ≡ isPair (platformOf xs k) (encodingOf xs k) xs r
+  asked = rw q at p
+
+  pub twin-no : t ≡ false → false ≡ isTwin xs k r
+  unfolding isTwin
+  twin-no f = rw (← asked, f)
+
+  pub twin-then : (at : ℕ) → t ≡ true → at ≡ offsetOf xs r → eqb at (e .offset) ≡ isTwin xs k r
+  unfolding isTwin
+  twin-then at f h = rw (← asked, f, h, q)
+
+module _ (xs : List ℕ) (os : List Outcome) (k r : ℕ) (t : Bool) (q : t ≡ cameToNothing (getD os r NotRetained)) where
+  pub spent-no : t ≡ false → false ≡ isSpent xs os k r
+  unfolding isSpent
+  spent-no e = rw (← q, e)
+
+  pub spent-then : (a b : ℕ) → t ≡ true → a ≡ offsetOf xs r → b ≡ offsetOf xs k → eqb a b ≡ isSpent xs os k r
+  unfolding isSpent
+  spent-then a b e f g = rw (← q, e, f, g)
+
+pub ruleset twin-tests = (twin-no, twin-then, spent-no, spent-then)
+
+pub twin-start : (xs : List ℕ) (k : ℕ) → Finding (isTwin xs k) k 0 (twin xs k)
+unfolding twin
+twin-start xs k = looking-start (isTwin xs k) k
+
+pub spent-start : (xs : List ℕ) (os : List Outcome) (k : ℕ) → Finding (isSpent xs os k) k 0 (spent xs os k)
+unfolding spent
+spent-start xs os k = looking-start (isSpent xs os k) k
+
+pub ruleset twin-search = (twin-start, spent-start, looks, two)
+
+-- ---- what depends on the pair and the offset alone
+
+record Alike (xs : List ℕ) (k r : ℕ) : Type 0 where
+  platform : platformOf xs r ≡ platformOf xs k
+  encoding : encodingOf xs r ≡ encodingOf xs k
+  offset : offsetOf xs r ≡ offsetOf xs k
+
+twin-alike : (xs : List ℕ) (k r : ℕ) → isTwin xs k r ≡ true → Alike xs k r
+unfolding isTwin
+twin-alike xs k r e =
+    let p = eqb (platformOf xs r) (platformOf xs k) in
+    let c = eqb (encodingOf xs r) (encodingOf xs k) in
+    let o = eqb (offsetOf xs r) (offsetOf xs k) in
+    let pc = both-left (both p c) o e in
+    record {
+      platform = eqb-true (platformOf xs r) (platformOf xs k) (both-left p c pc);
+      encoding = eqb-true (encodingOf xs r) (encodingOf xs k) (both-right p c pc);
+      offset = eqb-true (offsetOf xs r) (offsetOf xs k) (both-right (both p c) o e);
+    }
+
+retained-alike : (xs : List ℕ) (k r : ℕ) → Alike xs k r → retained xs r ≡ retained xs k
+unfolding retained bmpPair fullPair leadsTo
+retained-alike xs k r a = rw (a .platform, a .encoding, a .offset)
+
+leads-alike : (xs : List ℕ) (k r : ℕ) → offsetOf xs r ≡ offsetOf xs k → leadsTo xs r ≡ leadsTo xs k
+unfolding leadsTo
+leads-alike xs k r e = ap (kindAt xs) e
+
+maps-alike : (xs : List ℕ) (n k r : ℕ) → offsetOf xs r ≡ offsetOf xs k → maps xs n r ≡ maps xs n k
+unfolding maps leadsTo
+maps-alike xs n k r e = ap {B = ℕ → Bool} (λ (at c : ℕ). mapsAs (kindAt xs at) xs at n c) e
+
+module _ (xs : List ℕ) (n : ℕ) (kept : List ℕ) (k r : ℕ) (a : Alike xs k r) where
+  sibling-alike : firstSibling xs r ≡ firstSibling xs k
+  unfolding firstSibling isSibling
+  sibling-alike =
+      first-ext (isSibling xs r) (isSibling xs k) (recordCount xs) 0
+      (λ i p q. rw (a .platform, a .encoding, leads-alike xs k r (a .offset)))
+
+  above-alike : reachesAbove xs n kept r ≡ reachesAbove xs n kept k
+  unfolding reachesAbove
+  above-alike = ap (λ (m : ℕ → Bool). anyOf (λ c. both (m c) (leb 0x10000 c)) kept) (maps-alike xs n k r (a .offset))
+
+  same-alike : (i : ℕ) → mapAlike xs n kept r i ≡ mapAlike xs n kept k i
+  unfolding mapAlike
+  same-alike i = ap (λ (m : ℕ → Bool). eqList (select m kept) (select (maps xs n i) kept)) (maps-alike xs n k r (a .offset))
+
+  covered-alike : covered xs n kept r ≡ covered xs n kept k
+  unfolding covered siblingCovers
+  covered-alike = rw (leads-alike xs k r (a .offset), sibling-alike, above-alike, same-alike (firstSibling xs k))
+
+module _ (j : Job) (k r : ℕ) (e : offsetOf (j .source) r ≡ offsetOf (j .source) k) where
+  listed-alike : listedOf j r ≡ listedOf j k
+  unfolding listed
+  listed-alike = ap (λ (m : ℕ → Bool). select (λ (p : Pair). m (p .0)) (pairs (j .codes) (j .glyphs))) (maps-alike (j .source) (glyphCount j) k r e)
+
+  fresh-alike : fresh j r ≡ fresh j k
+  unfolding fresh
+  fresh-alike = rw (leads-alike (j .source) k r e) (go (leadsTo (j .source) k))
+    where
+      go : (kind : Kind) → freshAs kind j r ≡ freshAs kind j k
+      go (Format4 language s len) = ap (λ ps. by4 (sizeOf4 ps)) listed-alike
+      go (Format12 language g len) = ap (λ (ps : List Pair). Made (sizeOf12 ps .bytes)) listed-alike
+      go (Format14 n len) = ap (λ (at : ℕ). by14 (outcome14 (given (j .source) at len (j .kept) (j .newGlyphs) (j .requested)))) e
+      go Unreadable = refl
+
+-- ---- what the row tells
+
+module _ (j : Job) (os : List Outcome) (k : ℕ) (e : Earlier j os k) where
+  row-covered : (r : ℕ) → r < k → retained (j .source) r ≡ true → isCovered (getD os r NotRetained) ≡ covered (j .source) (glyphCount j) (j .kept) r
+  row-covered r h keeps =
+      rw (e .row, outcome-at j k r h (omega (arith, e .inside)))
+      (by-outcome j (outcomes j r) r (λ (o : Outcome). isCovered o ≡ covers j (outcomes j r) r)
+      (λ f. absurd (false-true (sym f ∙ keeps)))
+      (λ f c. sym c)
+      (λ f c h. sym c)
+      (λ f c h. fresh-never j r isCovered refl refl refl refl (λ n. refl) ∙ sym c))
+
+  row-spent : (r : ℕ) → r < k → cameToNothing (getD os r NotRetained) ≡ true → getD os r NotRetained ≡ fresh j r
+  row-spent r h =
+      rw (e .row, outcome-at j k r h (omega (arith, e .inside)))
+      (by-outcome j (outcomes j r) r (λ (o : Outcome). cameToNothing o ≡ true → o ≡ fresh j r)
+      (λ f c. absurd (false-true c))
+      (λ f c d. absurd (false-true d))
+      (λ f c h d. absurd (false-true d))
+      (λ f c h d. refl))
+
+  spent-fresh : (r : ℕ) → r ≡ spent (j .source) os k → r < k → getD os r NotRetained ≡ fresh j k
+  unfolding spent isSpent
+  spent-fresh r q h =
+      let t : isSpent (j .source) os k r ≡ true = rw (← q) at (first-holds (isSpent (j .source) os k) k 0 (omega (arith, q, h))) in
+      let n = cameToNothing (getD os r NotRetained) in
+      let o = eqb (offsetOf (j .source) r) (offsetOf (j .source) k) in
+      row-spent r h (both-left n o t) ∙ fresh-alike j k r (eqb-true (offsetOf (j .source) r) (offsetOf (j .source) k) (both-right n o t))
+
+module _ (xs cs gs kept map requested : List ℕ) (os : List Outcome) (k : ℕ) where
+  abbrev j : Job
+  j = job xs cs gs kept map requested
+
+  module _ (e : Earlier j os k) where
+    pub tells : retained xs k ≡ true → Tells xs (length map) kept os k
+    tells h = record { inside = e .inside; this = h; covers = row-covered j os k e }
+
+    pub spent-short : (r : ℕ) → Short (getD os r NotRetained)
+    spent-short r = e .small .each r
+
+    pub is-spent : (r : ℕ) → r ≡ spent xs os k → r < k → getD os r NotRetained ≡ fresh j k
+    is-spent r p l = spent-fresh j os k e r p l
+
+pub twin-tells : (xs : List ℕ) (n : ℕ) (kept : List ℕ) (os : List Outcome) (k r : ℕ) (t : Bool) → Tells xs n kept os k → r ≡ twin xs k → r < k
+    → t ≡ isCovered (getD os r NotRetained) → t ≡ covered xs n kept k
+unfolding twin
+twin-tells xs n kept os k r t w q h e =
+    let f : isTwin xs k r ≡ true = rw (← q) at (first-holds (isTwin xs k) k 0 (omega (arith, q, h))) in
+    let a = twin-alike xs k r f in
+    e ∙ w .covers r h (retained-alike xs k r a ∙ w .this) ∙ covered-alike xs n kept k r a
+
+pub ruleset twins = (tells, spent-short, is-spent, twin-tells)

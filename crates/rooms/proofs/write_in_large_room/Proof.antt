@@ -1,0 +1,45 @@
+use borrow.Author.Needs.{needs}
+use Rattle.rooms.proofs.write_in_large_room.Statement.{statement}
+use Rattle.rooms.proofs.write_in_large_room.Tie as tie
+use native.Mathlib.Omega.{arith}
+
+write-in-full-room-requires : tie.Need-write-in-full-room-requires
+write-in-full-room-requires c κs = search needs
+
+same-length : tie.Need-same-length
+same-length c = search needs
+
+returns : tie.Need-returns
+returns c = search needs
+
+write-in-full-room-requires-2 : tie.Need-write-in-full-room-requires-2
+write-in-full-room-requires-2 c κs = search needs
+
+same-length-2 : tie.Need-same-length-2
+same-length-2 c = search needs
+
+returns-2 : tie.Need-returns-2
+returns-2 c = search needs
+
+write-in-middle-room-requires : tie.Need-write-in-middle-room-requires
+write-in-middle-room-requires c κs = (search needs, (search needs, (search needs, omega arith)))
+
+same-length-3 : tie.Need-same-length-3
+same-length-3 c = search needs
+
+returns-3 : tie.Need-returns-3
+returns-3 c = search needs
+
+pub write-in-large-room-spec : {M : Type 1} → statement M
+write-in-large-room-spec =
+    tie.close
+    (tie.spec
+    write-in-full-room-requires
+    same-length
+    returns
+    write-in-full-room-requires-2
+    same-length-2
+    returns-2
+    write-in-middle-room-requires
+    same-length-3
+    returns-3)
