@@ -108,13 +108,20 @@ module _ (j : Job) (out : List ℕ) where
 
 -- ---- one answer only
 
+-- any two results that an equation with a definition allows are equal
+pub once : {A : Type 0} {a b : A} (c : A) → a ≡ c → b ≡ c → a ≡ b
+once c e f = e ∙ sym f
+
+pub fate-once : {j : Job} {k : ℕ} {a b : Fate} → a ≡ fateOf j k → b ≡ fateOf j k → a ≡ b
+fate-once {j} {k} = once (fateOf j k)
+
 -- what the promise allows
 pub record Allowed (j : Job) (out : List ℕ) (a : Answer) (fin : List ℕ) : Type 0 where
   pub answer : a ≡ answerOf j (length out)
   pub output : fin ≡ outputOf j out
 
 pub allowed-once : {j : Job} {out : List ℕ} {a b : Answer} {fin last : List ℕ} → Allowed j out a fin → Allowed j out b last → (a ≡ b) × (fin ≡ last)
-allowed-once x y = (x .answer ∙ sym (y .answer), x .output ∙ sym (y .output))
+allowed-once {j} {out} x y = (once (answerOf j (length out)) (x .answer) (y .answer), once (outputOf j out) (x .output) (y .output))
 
 -- ---- the number of a fate
 
