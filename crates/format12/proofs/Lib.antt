@@ -1,5 +1,5 @@
 pub mod GroupsLaws
+pub mod RunLaws
 pub mod WalkLaws
 pub mod TableLaws
 pub mod MaximalLaws
-pub mod RunLaws

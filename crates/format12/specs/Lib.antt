@@ -1,2 +1,1 @@
 pub mod Format12
-pub mod Steps

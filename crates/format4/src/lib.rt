@@ -105,6 +105,7 @@ fn find_segcount(codes: &[u32], glyphs: &[u16]) -> RangeCounter
     let mut state = RangeState::new();
     let mut n = RangeCounter::new();
     let mut i: usize = 0;
+    // A run at a time: growing to its last pair takes in all that go on.
     while i < codes.len() {
         let a = state.absorb(codes[i] as u16, glyphs[i]);
         let begun = a.state;

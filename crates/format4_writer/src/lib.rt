@@ -209,6 +209,7 @@ fn write_columns(out: &mut [u8], codes: &[u32], glyphs: &[u16], at: RangeWriter)
     let mut state = RangeState::new();
     let mut w = at;
     let mut i: usize = 0;
+    // A run at a time: growing to its last pair takes in all that go on.
     while i < codes.len() {
         let a = state.absorb(codes[i] as u16, glyphs[i]);
         let begun = a.state;

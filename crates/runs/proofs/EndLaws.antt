@@ -11,6 +11,7 @@ use lib.Dec.{eqb}
 use lib.ListN.{length, getD}
 use Rattle.laws.specs.Search.{first}
 use Rattle.laws.proofs.ChoiceLaws.{false-true, both-left, both-right, by-pick}
+use Rattle.laws.proofs.FirstLaws.{first-holds}
 use Rattle.laws.proofs.SearchLaws.{Finding, seeking-start, looking-on, looking-found, looking-none}
 use Rattle.runs.specs.Runs.{breaks, breaksAt, runEnd, Ends}
 
@@ -82,3 +83,8 @@ module _ (cs gs : List ℕ) where
       go (suc m) h =
           let next : Next cs gs (i + m) = on-first (length cs - (i + 1)) i (i + m) (omega arith) (omega (arith, r .is)) in
           subst P (omega arith) (on (i + m) (omega arith) next (go m (omega arith)))
+
+  -- the pair behind the run does not go on
+  pub run-breaks : (i e : ℕ) → Ends cs gs i e → e < length cs → breaksAt cs gs e ≡ true
+  unfolding runEnd
+  run-breaks i e r h = subst (λ (k : ℕ). breaksAt cs gs k ≡ true) (sym (r .is)) (first-holds (breaksAt cs gs) (length cs - (i + 1)) (i + 1) (omega (arith, r .is, r .behind)))

@@ -1,58 +1,25 @@
--- What was counted and what is still to end are together the groups of the definition.
+-- What was counted and the groups of the pairs ahead are together the groups of the definition.
 use Rattle.format12.proofs.count_groups.Statement.{statement}
 use Rattle.format12.proofs.count_groups.Tie as tie
-use Rattle.format12.proofs.WalkLaws.{Counting, counting}
-use borrow.Author.Needs.{needs}
-use lib.ListN.{length}
 use Prim.Native.Nat.{_-_}
+use lib.ListN.{length}
+use borrow.Author.Needs.{needs}
+use Rattle.format12.proofs.WalkLaws.{Counting, counting}
 
 abbrev Inv-loop : tie.InvT-loop
-Inv-loop codes glyphs state₀ n₀ i₀ state n i = Counting codes glyphs state n i
+Inv-loop codes glyphs n₀ i₀ n i = Counting codes glyphs n i
 
 abbrev μ-loop : tie.MeasureT-loop
-μ-loop codes glyphs state₀ n₀ i₀ state n i = length codes - i
-
-new-requires : tie.Need-new-requires Inv-loop μ-loop
-new-requires c κs = search needs
+μ-loop codes glyphs n₀ i₀ n i = length codes - i
 
 loop-holds : tie.Need-loop-holds Inv-loop μ-loop
 loop-holds c = search (needs, counting)
 
-mul-absorb : tie.Need-mul-absorb Inv-loop μ-loop
-mul-absorb c = search needs
-
-shared-slice-read-absorb : tie.Need-shared-slice-read-absorb Inv-loop μ-loop
-shared-slice-read-absorb c = search needs
-
-mul-absorb-2 : tie.Need-mul-absorb-2 Inv-loop μ-loop
-mul-absorb-2 c = search needs
-
-shared-slice-read-absorb-2 : tie.Need-shared-slice-read-absorb-2 Inv-loop μ-loop
-shared-slice-read-absorb-2 c = search needs
-
-absorb-requires : tie.Need-absorb-requires Inv-loop μ-loop
-absorb-requires c κs = search needs
-
-count-ended-requires : tie.Need-count-ended-requires Inv-loop μ-loop
-count-ended-requires c κs = search needs
-
-add-n : tie.Need-add-n Inv-loop μ-loop
-add-n c = search needs
-
 run-end-requires : tie.Need-run-end-requires Inv-loop μ-loop
 run-end-requires c κs = search needs
 
-sub-up-to : tie.Need-sub-up-to Inv-loop μ-loop
-sub-up-to c = search needs
-
-mul-up-to : tie.Need-mul-up-to Inv-loop μ-loop
-mul-up-to c = search needs
-
-shared-slice-read-up-to : tie.Need-shared-slice-read-up-to Inv-loop μ-loop
-shared-slice-read-up-to c = search needs
-
-up-to-requires : tie.Need-up-to-requires Inv-loop μ-loop
-up-to-requires c κs = search needs
+add-n : tie.Need-add-n Inv-loop μ-loop
+add-n c = search needs
 
 loop-less : tie.Need-loop-less Inv-loop μ-loop
 loop-less c = search needs
@@ -60,41 +27,10 @@ loop-less c = search needs
 loop-again : tie.Need-loop-again Inv-loop μ-loop
 loop-again c = search (needs, counting)
 
-finish-requires : tie.Need-finish-requires Inv-loop μ-loop
-finish-requires c κs = search needs
-
-count-ended-requires-2 : tie.Need-count-ended-requires-2 Inv-loop μ-loop
-count-ended-requires-2 c κs = search needs
-
-add-result : tie.Need-add-result Inv-loop μ-loop
-add-result c = search needs
-
 returns : tie.Need-returns Inv-loop μ-loop
 returns c = search (needs, counting)
 
 pub count-groups-spec : {M : Type 1} → statement M
 count-groups-spec =
     tie.close
-    (tie.spec
-    Inv-loop
-    μ-loop
-    new-requires
-    loop-holds
-    mul-absorb
-    shared-slice-read-absorb
-    mul-absorb-2
-    shared-slice-read-absorb-2
-    absorb-requires
-    count-ended-requires
-    add-n
-    run-end-requires
-    sub-up-to
-    mul-up-to
-    shared-slice-read-up-to
-    up-to-requires
-    loop-less
-    loop-again
-    finish-requires
-    count-ended-requires-2
-    add-result
-    returns)
+    (tie.spec Inv-loop μ-loop loop-holds run-end-requires add-n loop-less loop-again returns)
