@@ -18,7 +18,7 @@ const SMALL_KEPT: usize = 4096;
 
 const SMALL_PAIRS: usize = 2048;
 
-// Work room that is enough for most of the larger ones.
+// Work room that is enough for most other jobs.
 const MIDDLE_KEPT: usize = 32768;
 
 const MIDDLE_PAIRS: usize = 16384;
@@ -152,7 +152,7 @@ fn plan_in_middle_room(
     )
 }
 
-// What a job asks for that is not small: as it is called from two places, a small job does not touch its work room.
+// For a job that is not small. Called from two places and too long to be compiled into them, so that a small job's frame stays small.
 fn plan_in_large_room(
     s: &[u8],
     codes: &[u32],
@@ -398,6 +398,7 @@ fn write_in_middle_room(
     )
 }
 
+// For a job that is not small, as above.
 fn write_in_large_room(
     out: &mut [u8],
     s: &[u8],
