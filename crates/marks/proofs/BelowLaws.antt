@@ -7,13 +7,14 @@ use native.Mathlib.Nat.{not-suc-le-zero}
 use native.Mathlib.Omega.{arith}
 use lib.Dec.{ltb, leb, eqb}
 use lib.ListN.{length, getD}
-use borrow.Author.Tests.{lt-ltb, le-ltb, le-leb, lt-leb, eq-eqb, ne-eqb, leb-true, leb-false, eqb-true}
+use borrow.Author.Tests.{lt-ltb, le-ltb, le-leb, lt-leb, eq-eqb, ne-eqb, leb-true, leb-false, ltb-true, eqb-true}
+use Rattle.laws.specs.Choice.{both}
 use Rattle.laws.specs.Lists.{Rising}
 use Rattle.laws.proofs.ChoiceLaws.{by-pick, by-leb, both-left, both-right}
 use Rattle.laws.proofs.EitherLaws.{either-none}
-use Rattle.laws.proofs.RisingLaws.{rising-tail}
+use Rattle.laws.proofs.RisingLaws.{rising-tail, rising-lt}
 use Rattle.laws.proofs.FrontLaws.{rising-above}
-use Rattle.marks.specs.Marks.{below, passed, holds, Bound, Inside, Halving, AtLeast}
+use Rattle.marks.specs.Marks.{below, passed, listed, holds, Bound, Inside, Halving, AtLeast}
 
 -- ---- below
 
@@ -170,6 +171,68 @@ module _ (ps : List ℕ) (start end near : ℕ) where
 pub ruleset passing = (passed-not, passed-short, passed-told)
 
 pub ruleset counted = (reaches-last, reaches-none, suffices-next, suffices-end, count-over, count-short, count-told, count-is)
+
+-- ---- a stretch that is listed whole
+
+module _ (ps : List ℕ) (c i : ℕ) (r : Rising ps) (h : i < length ps) (e : getD ps i 0 ≡ c) where
+  -- c at place i: i numbers are below c,
+  place-low : Bound ps c i
+  place-low =
+      let u = below-upto ps c i r h (omega arith) in
+      let l : i ≤ below ps c =
+      by-leb (i ≤ below ps c) i 0 (λ z. omega arith)
+      (λ (p : 0 < i). omega (arith, below-past ps c (i - 1) r (omega arith) (omega (arith, rising-lt r (i - 1) i (omega arith) h)))) in
+      record { is = omega arith; within = omega arith }
+
+  -- and one more below c + 1
+  place-high : Bound ps (c + 1) (i + 1)
+  place-high =
+      let l = below-past ps (c + 1) i r h (omega arith) in
+      let u : below ps (c + 1) ≤ i + 1 =
+      by-leb (below ps (c + 1) ≤ i + 1) (length ps) (i + 1) (λ (z : length ps ≤ i + 1). omega (arith, below-within ps (c + 1)))
+      (λ (p : i + 1 < length ps). below-upto ps (c + 1) (i + 1) r p (omega (arith, rising-lt r i (i + 1) (omega arith) p))) in
+      record { is = omega arith; within = omega arith }
+
+module _ (ps : List ℕ) (start end near : ℕ) where
+  pub record Listed : Type 0 where
+    pub order : start ≤ end
+    pub starts : near < length ps
+    pub first : getD ps near 0 ≡ start
+    pub ends : near + (end - start) < length ps
+    pub last : getD ps (near + (end - start)) 0 ≡ end
+
+  pub listed-says : (b : Bool) → b ≡ listed ps start end near → b ≡ true → Listed
+  unfolding listed
+  listed-says b q t =
+      let e = sym q ∙ t in
+      let t₅ = eqb (getD ps (near + (end - start)) 0) end in
+      let t₄ = ltb (end - start) (length ps - near) in
+      let t₃ = eqb (getD ps near 0) start in
+      let t₂ = ltb near (length ps) in
+      let e₂ = both-right (leb start end) (both t₂ (both t₃ (both t₄ t₅))) e in
+      let e₃ = both-right t₂ (both t₃ (both t₄ t₅)) e₂ in
+      let e₄ = both-right t₃ (both t₄ t₅) e₃ in
+      let near-in = ltb-true near (length ps) (both-left t₂ (both t₃ (both t₄ t₅)) e₂) in
+      let more-in = ltb-true (end - start) (length ps - near) (both-left t₄ t₅ e₄) in
+      record {
+        order = leb-true start end (both-left (leb start end) (both t₂ (both t₃ (both t₄ t₅))) e);
+        starts = near-in;
+        first = eqb-true (getD ps near 0) start (both-left t₃ (both t₄ t₅) e₃);
+        ends = omega arith;
+        last = eqb-true (getD ps (near + (end - start)) 0) end (both-right t₄ t₅ e₄);
+      }
+
+  pub listed-low : (b : Bool) → b ≡ listed ps start end near → b ≡ true → Rising ps → Bound ps start near
+  listed-low b q e r =
+      let l = listed-says b q e in
+      place-low ps start near r (l .starts) (l .first)
+
+  pub listed-high : (b : Bool) → b ≡ listed ps start end near → b ≡ true → Rising ps → Bound ps (end + 1) (near + (end - start) + 1)
+  listed-high b q e r =
+      let l = listed-says b q e in
+      place-high ps end (near + (end - start)) r (l .ends) (l .last)
+
+pub ruleset listing = (listed-low, listed-high)
 
 -- ---- holds
 

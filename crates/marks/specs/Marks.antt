@@ -1,10 +1,10 @@
 -- Flags beside a rising list of points, flag i for point i: 0 says no, anything else yes.
-use Prim.Native.Nat.{ℕ, suc, _+_, _≤_}
+use Prim.Native.Nat.{ℕ, suc, _+_, _-_, _≤_}
 use mathlib.Core.Path.{_≡_}
 use mathlib.Core.List.{List, [], _∷_}
 use mathlib.Core.Bool.{Bool, true, false}
 use lib.Dec.{ltb, leb, eqb}
-use lib.ListN.{length, replicate}
+use lib.ListN.{length, getD, replicate}
 use lib.Seq.{sets}
 use Rattle.laws.specs.Choice.{pick, both, either}
 use Rattle.laws.specs.Lists.{Rising}
@@ -25,6 +25,15 @@ below (x ∷ xs) c = let r = below xs c in pick (ltb x c) (suc r) r
 -- whether near of the numbers are below start, and no more are at most end
 unfoldable pub passed : List ℕ → ℕ → ℕ → ℕ → Bool
 passed ps start end near = both (leb near (below ps start)) (leb (below ps (end + 1)) near)
+
+-- whether start stands at near, and end as many places on as it is above start
+unfoldable pub listed : List ℕ → ℕ → ℕ → ℕ → Bool
+listed ps start end near =
+    both (leb start end)
+    (both (ltb near (length ps))
+    (both (eqb (getD ps near 0) start)
+    (both (ltb (end - start) (length ps - near))
+    (eqb (getD ps (near + (end - start)) 0) end))))
 
 -- whether c is one of the numbers
 unfoldable pub holds : List ℕ → ℕ → Bool

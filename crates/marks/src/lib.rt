@@ -5,7 +5,7 @@ ghost use lib.Dec.{leb, eqb};
 ghost use lib.ListN.{length, replicate};
 ghost use lib.Seq.{sets};
 ghost use Rattle.laws.specs.Lists.{Rising};
-ghost use Rattle.marks.specs.Marks.{between, below, passed, holds, marked, kept, Bound, Halving, AtLeast, Flags, Places};
+ghost use Rattle.marks.specs.Marks.{between, below, passed, listed, holds, marked, kept, Bound, Halving, AtLeast, Flags, Places};
 
 // The bound may be one past the greatest u32.
 fn halve(points: &[u32], c: u64, from: usize, upto: usize) -> usize
@@ -156,8 +156,28 @@ pub struct Span {
     pub high: usize,
 }
 
-// The points from start to end, both included: low are below start, high at most end.
-pub fn span_near(points: &[u32], start: u32, end: u32, near: usize) -> Span
+// Whether start stands at near, and all up to end behind it: two looks at points that rise tell it.
+fn is_listed(points: &[u32], start: u32, end: u32, near: usize) -> bool
+    ensures { λ r. ⌜ r ≡ listed (now (points .entry)) start end near ⌝ }
+{
+    if end < start {
+        return false;
+    }
+    if points.len() <= near {
+        return false;
+    }
+    if points[near] != start {
+        return false;
+    }
+    let more = (end - start) as usize;
+    if points.len() - near <= more {
+        return false;
+    }
+    points[near + more] == end
+}
+
+// What span_near gives, found by looks and searches.
+fn span_search(points: &[u32], start: u32, end: u32, near: usize) -> Span
     requires { ⌜ Rising (now points) ⌝ }
     ensures { λ r. ⌜ Bound (now (points .entry)) start (r .low) ⌝ }
     ensures { λ r. ⌜ Bound (now (points .entry)) (end + 1) (r .high) ⌝ }
@@ -165,6 +185,19 @@ pub fn span_near(points: &[u32], start: u32, end: u32, near: usize) -> Span
     let low = count_at(points, start as u64, near);
     let high = count_upto(points, start, end, low);
     Span { low, high }
+}
+
+// The points from start to end, both included: low are below start, high at most end. Most stretches of a walk are listed whole.
+pub fn span_near(points: &[u32], start: u32, end: u32, near: usize) -> Span
+    requires { ⌜ Rising (now points) ⌝ }
+    ensures { λ r. ⌜ Bound (now (points .entry)) start (r .low) ⌝ }
+    ensures { λ r. ⌜ Bound (now (points .entry)) (end + 1) (r .high) ⌝ }
+{
+    if is_listed(points, start, end, near) {
+        let high = near + (end - start) as usize + 1;
+        return Span { low: near, high };
+    }
+    span_search(points, start, end, near)
 }
 
 // How many points are below c.
