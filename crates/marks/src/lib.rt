@@ -306,14 +306,6 @@ pub fn mark_points_near(
     span.high
 }
 
-// The same with no place to start from.
-pub fn mark_points(flags: &mut [u8], points: &[u32], start: u32, end: u32)
-    requires { ⌜ Flags (now points) (now flags) ⌝ }
-    ensures { λ _. ⌜ now (flags .exit) ≡ marked (between start end) (now (points .entry)) (now (flags .entry)) ⌝ }
-{
-    mark_points_near(flags, points, start, end, points.len());
-}
-
 // Copies the pairs whose flag is set to the front of the columns lent for them; how many.
 pub fn copy_marked(
     flags: &[u8],

@@ -4,7 +4,7 @@ ghost use Prim.Native.Nat.{_<_};
 ghost use lib.ListN.{length};
 ghost use Rattle.runs.specs.Runs.{breaks, Ends};
 
-// Whether the pair (d, h) does not go on from the pair (c, g).
+// Whether the pair (d, h) does not go on from the pair (c, g): the crate's is_gid_consecutive, asked of neighbours and turned round.
 fn breaks(c: u32, g: u16, d: u32, h: u16) -> bool
     ensures { λ r. ⌜ r ≡ breaks c g d h ⌝ }
 {
