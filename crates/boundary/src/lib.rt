@@ -69,7 +69,7 @@ fn records_of(answer: cmap::Answer) -> usize
     }
 }
 
-pub fn tell(answer: cmap::Answer) -> SubsetAnswer
+fn tell(answer: cmap::Answer) -> SubsetAnswer
     ensures { λ r. ⌜ r ≡ told answer ⌝ }
 {
     SubsetAnswer {
@@ -124,7 +124,7 @@ fn written_at(kind: cmap::FateKind) -> usize
     }
 }
 
-pub fn tell_fate(fate: cmap::Fate) -> FateAnswer
+fn tell_fate(fate: cmap::Fate) -> FateAnswer
     ensures { λ r. ⌜ r ≡ toldFate fate ⌝ }
 {
     let kind = fate.kind;

@@ -134,7 +134,7 @@ fn same_range(start: u32, additional: u32, other: u32, more: u32) -> bool
 }
 
 // Whether the records of two flaggings of the points get the same bytes.
-pub fn same_ranges(kept: &[u32], first: &[u8], most: u32, second: &[u8], limit: u32) -> bool
+fn same_ranges(kept: &[u32], first: &[u8], most: u32, second: &[u8], limit: u32) -> bool
     requires { ⌜ Flagging (now kept) (now first) most ⌝ }
     requires { ⌜ Flagging (now kept) (now second) limit ⌝ }
     ensures { λ r. ⌜ r ≡ sameRanges (now (kept .entry)) (now (first .entry)) most (now (second .entry)) limit ⌝ }
