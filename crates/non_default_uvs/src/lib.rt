@@ -12,22 +12,33 @@ ghost use Rattle.uvs.specs.Checksum.{mixed, checksum};
 ghost use Rattle.uvs.specs.NonDefault.{mapping, keepsMapping, keptMappings, mappingBytes, newNonDefault, missing, badMapping};
 ghost use Rattle.non_default_uvs.specs.Lent.{Mapping, Table, New, Count};
 
-// How many kept points are below c; `near` itself is returned at once where it is still that number, and changes the time alone.
+// The place behind i where the point at i is below c, else i.
+fn step(kept: &[u32], c: u32, i: usize) -> usize {
+    if i < kept.len() {
+        if kept[i] < c {
+            return i + 1;
+        }
+    }
+    i
+}
+
+// How many kept points are below c; found at once where it is `near` or the next number, which changes the time alone.
 fn count_at(kept: &[u32], c: u32, near: usize) -> usize
     requires { ⌜ Rising (now kept) ⌝ }
     ensures { λ r. ⌜ Bound (now (kept .entry)) c r ⌝ }
 {
-    if near < kept.len() {
-        if c <= kept[near] {
-            if near == 0 {
+    let i = step(kept, c, near);
+    if i < kept.len() {
+        if c <= kept[i] {
+            if i == 0 {
                 return 0;
             }
-            if kept[near - 1] < c {
-                return near;
+            if kept[i - 1] < c {
+                return i;
             }
         }
     }
-    marks::count_near(kept, c as u64, near)
+    marks::count_near(kept, c as u64, i)
 }
 
 // Whether c is a kept point, where i of them are below it.

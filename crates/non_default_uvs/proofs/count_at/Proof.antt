@@ -4,6 +4,9 @@ use Rattle.non_default_uvs.proofs.count_at.Statement.{statement}
 use Rattle.non_default_uvs.proofs.count_at.Tie as tie
 use Rattle.non_default_uvs.proofs.MappingLaws.{bounds}
 
+step-requires : tie.Need-step-requires
+step-requires c κs = search needs
+
 mul-if2 : tie.Need-mul-if2
 mul-if2 c = search needs
 
@@ -35,6 +38,7 @@ pub count-at-spec : {M : Type 1} → statement M
 count-at-spec =
     tie.close
     (tie.spec
+    step-requires
     mul-if2
     shared-slice-read-if2
     returns
