@@ -9,13 +9,13 @@ import re
 
 HEAD = """# Edits that must fail
 
-`python3 tools/edits.py > docs/EDITS.md` prints this page anew after `.ci/run`, from what the prover said of each edit. "Refused at" is the first fact that no longer holds: the function (or the file of laws) and the need or law in it. "For the prover" says that the function's proof is the prover's own, with no file.
+`python3 tools/edits.py > docs/EDITS.md` prints this page anew after `.ci/run`, from what the prover said of each edit. "Refused at" is the first fact that no longer holds: the function (or the file of laws) and the need or law in it.
 
 | edit | what it says, and the edit breaks | changed | refused at |
 |---|---|---|---|"""
 
 ERROR = re.compile(r"^\S*/must-fail/\w+/\w+/(proofs|specs)/(\S+?)\.antt:\d+:\d+: error: `([^`]+)`", re.M)
-NOTE = re.compile(r"^(?:note|error)[^\n]*?`?([\w:]+)`?[^\n]*(?:no proof|search)[^\n]*", re.M)
+NOTE = re.compile(r"^note: (\S*/must-fail/\w+/\w+/src/\S+?):(\d+):\d+: it is not proved [^\n]*\(`([^`]+)`\)", re.M)
 
 
 def told(edit):
@@ -27,15 +27,23 @@ def told(edit):
     return says, ", ".join(sorted(set(files)))
 
 
+def function_at(path, line):
+    """The function whose code stands at that line."""
+    with open(path, encoding="utf-8") as f:
+        names = re.findall(r"^\s*(?:pub )?(?:extern \"C\" )?fn (\w+)", "".join(f.readlines()[:line]), re.M)
+    return names[-1] if names else "?"
+
+
 def refused_at(log):
     if not os.path.exists(log):
         return "not run"
     with open(log, encoding="utf-8") as f:
         text = f.read()
-    found = ERROR.search(text)
+    note, found = NOTE.search(text), ERROR.search(text)
+    if note:
+        return f"`{function_at(note.group(1), int(note.group(2)))}`, whose proof is the prover's own: `{note.group(3)}`"
     if not found:
-        note = NOTE.search(text)
-        return "for the prover: " + (note.group(1) if note else "see its log")
+        return "see its log"
     path, name = found.group(2), found.group(3)
     place = path[:-len("/Proof")].replace("/", "::") if path.endswith("/Proof") else path
     return f"`{place}`: `{name}`"
