@@ -112,8 +112,8 @@ module _ (j : Job) (out : List ℕ) where
 pub once : {A : Type 0} {a b : A} (c : A) → a ≡ c → b ≡ c → a ≡ b
 once c e f = e ∙ sym f
 
-pub fate-once : {j : Job} {k : ℕ} {a b : Fate} → a ≡ fateOf j k → b ≡ fateOf j k → a ≡ b
-fate-once {j} {k} = once (fateOf j k)
+pub fate-once : (j : Job) (k : ℕ) {a b : Fate} → a ≡ fateOf j k → b ≡ fateOf j k → a ≡ b
+fate-once j k = once (fateOf j k)
 
 -- what the promise allows
 pub record Allowed (j : Job) (out : List ℕ) (a : Answer) (fin : List ℕ) : Type 0 where
