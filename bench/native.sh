@@ -15,7 +15,7 @@ for part in "$home"/on/aarch64/*; do [ -e "$kit/on/aarch64/$(basename "$part")" 
 tools=$home/on/aarch64/toolchain
 for part in "$tools"/*; do [ "$(basename "$part")" = bin ] || ln -s "$part" "$kit/on/aarch64/toolchain/"; done
 cp "$home"/bin/* "$kit/bin/"
-cp -L "$tools/bin/clang" "$kit/on/aarch64/toolchain/bin/llvm-ar"
+for part in "$tools"/bin/*; do [ "$(basename "$part")" = clang ] || cp -L "$part" "$kit/on/aarch64/toolchain/bin/"; done
 cat >"$kit/on/aarch64/toolchain/bin/clang" <<SH
 #!/bin/sh
 for word in "\$@"; do case "\$word" in *.bc) cp "\$word" "$kit/module.bc" ;; esac; done
