@@ -34,9 +34,9 @@ module _ (xs : List ℕ) (p : ℕ) (ks fs₀ fs : List ℕ) (most : ℕ) (h : Le
   unfolding mostOf
   records-new = rw (m, e, points-covered xs p ks fs₀ (h .beside)) (longest-most (inRanges (be 4 xs p) ks) (coveredPoints xs p ks))
 
-  pub sum-new : (sum : ℕ) → sum ≡ mixed 0 (flat rangeBytes (records most ks fs 0)) → sum ≡ checksum (newDefault xs p ks)
+  pub sum-new : (sum : ℕ) → sum ≡ mixed 4 0 (flat rangeBytes (records most ks fs 0)) → sum ≡ checksum 4 (newDefault xs p ks)
   unfolding newDefault
-  sum-new sum d = d ∙ rw records-new (sym (checksum-table rangeBytes (newRecords xs p ks)))
+  sum-new sum d = d ∙ rw records-new (sym (checksum-table 4 rangeBytes (newRecords xs p ks)))
 
   module _ (k : ℕ) (c : Count most ks fs k) where
     count-new : k ≡ length (newRecords xs p ks)

@@ -16,7 +16,7 @@ use Rattle.laws.proofs.SetsLaws.{sets-append, sets-snoc}
 use Rattle.number.specs.BigEndian.{put, enc}
 use Rattle.number.proofs.BigEndianLaws.{length-enc}
 use Rattle.marks.specs.Marks.{kept}
-use Rattle.uvs.specs.Checksum.{mixed}
+use Rattle.uvs.specs.Checksum.{stirred, gathered, mixed}
 use Rattle.uvs.proofs.ChecksumLaws.{mixed-append}
 use Rattle.uvs.specs.Default.{follow, longest, rangeBytes}
 use Rattle.default_uvs.specs.Stream.{points, records, Beside, Point, Start, Next, Count}
@@ -201,10 +201,18 @@ module _ (most : ℕ) (ks fs : List ℕ) (i : ℕ) where
 
 pub ruleset counted = (counted-start, counted-here, counted-on, counted-end)
 
+pub range-size : (a : Pair) → length (rangeBytes a) ≡ 4
+range-size a = rw (length-append, length-enc 3 (a .0), length-enc 1 (a .1))
+
+-- a record's bytes as one number
+pub mix-range-is : (sum start additional r : ℕ) → r ≡ stirred sum (start % 16777216 * 256 + additional % 256) → r ≡ mixed 4 sum (rangeBytes (start, additional))
+unfolding gathered enc
+mix-range-is sum start additional r e = e ∙ ap (stirred sum) (omega arith)
+
 -- mixed into a checksum: what is left of the records, from here on, gives the whole
 pub record Summed (most : ℕ) (ks fs : List ℕ) (i sum : ℕ) : Type 0 where
   pub standing : Standing ks fs i
-  pub left : mixed sum (flat rangeBytes (records most ks fs i)) ≡ mixed 0 (flat rangeBytes (records most ks fs 0))
+  pub left : mixed 4 sum (flat rangeBytes (records most ks fs i)) ≡ mixed 4 0 (flat rangeBytes (records most ks fs 0))
 
 module _ (most : ℕ) (ks fs : List ℕ) (i : ℕ) where
   pub summed-start : Point ks fs 0 i → Summed most ks fs i 0
@@ -214,13 +222,13 @@ module _ (most : ℕ) (ks fs : List ℕ) (i : ℕ) where
     pub summed-here : i < length ks → Beside ks fs → Start ks fs i
     summed-here h b = start-here most ks fs i (l .standing) h b
 
-    pub summed-on : (a j next : ℕ) → Next most ks fs i a j → next ≡ mixed sum (rangeBytes (getD ks i 0, a)) → Summed most ks fs j next
+    pub summed-on : (a j next : ℕ) → Next most ks fs i a j → next ≡ mixed 4 sum (rangeBytes (getD ks i 0, a)) → Summed most ks fs j next
     unfolding flat
     summed-on a j next n e =
-        record { standing = standing-on most ks fs i a j n; left = rw (e, ← mixed-append sum (rangeBytes (getD ks i 0, a)) (flat rangeBytes (records most ks fs j))) (rw (n .gives) at (l .left)) }
+        record { standing = standing-on most ks fs i a j n; left = rw (e, ← mixed-append 4 sum (rangeBytes (getD ks i 0, a)) (flat rangeBytes (records most ks fs j)) (omega arith) (range-size (getD ks i 0, a))) (rw (n .gives) at (l .left)) }
 
-    pub summed-end : length ks ≤ i → sum ≡ mixed 0 (flat rangeBytes (records most ks fs 0))
-    unfolding flat mixed
+    pub summed-end : length ks ≤ i → sum ≡ mixed 4 0 (flat rangeBytes (records most ks fs 0))
+    unfolding flat gathered
     summed-end h = rw (records-end most ks fs i h) at (l .left)
 
 pub ruleset summed = (summed-start, summed-here, summed-on, summed-end)
@@ -231,9 +239,6 @@ pub record Written (most : ℕ) (ks fs out₀ : List ℕ) (to : ℕ) (out : List
   pub same : length out ≡ length out₀
   pub room : to + 4 * k + length (flat rangeBytes (records most ks fs i)) ≤ length out
   pub left : sets out (to + 4 * k) (flat rangeBytes (records most ks fs i)) ≡ sets out₀ to (flat rangeBytes (records most ks fs 0))
-
-pub range-size : (a : Pair) → length (rangeBytes a) ≡ 4
-range-size a = rw (length-append, length-enc 3 (a .0), length-enc 1 (a .1))
 
 module _ (most : ℕ) (ks fs out₀ : List ℕ) (to : ℕ) where
   pub written-start : (i : ℕ) → Point ks fs 0 i → to + length (flat rangeBytes (records most ks fs 0)) ≤ length out₀ → Written most ks fs out₀ to out₀ i 0

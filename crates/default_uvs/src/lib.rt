@@ -121,11 +121,12 @@ pub fn next_range(kept: &[u32], flags: &[u8], i: usize, most: u32) -> UnicodeRan
     }
 }
 
-// A checksum with one record more.
+// A checksum with one record more: its start in three bytes, how many points follow in one.
 fn mix_range(sum: u64, start: u32, additional: u32) -> u64
-    ensures { λ r. ⌜ r ≡ mixed sum (rangeBytes (start, additional)) ⌝ }
+    ensures { λ r. ⌜ r ≡ mixed 4 sum (rangeBytes (start, additional)) ⌝ }
 {
-    uvs::mix_byte(uvs::mix_u24(sum, start), additional)
+    let record = start as u64 % 16777216 * 256 + additional as u64 % 256;
+    uvs::mix(sum, record)
 }
 
 // How many records there are, and a checksum of them.
@@ -138,7 +139,7 @@ struct RecordsMeasure {
 fn measure_ranges(kept: &[u32], flags: &[u8], most: u32) -> RecordsMeasure
     requires { ⌜ Beside (now kept) (now flags) ⌝ }
     ensures { λ r. ⌜ Count most (now (kept .entry)) (now (flags .entry)) (r .count) ⌝ }
-    ensures { λ r. ⌜ r .sum ≡ mixed 0 (flat rangeBytes (records most (now (kept .entry)) (now (flags .entry)) 0)) ⌝ }
+    ensures { λ r. ⌜ r .sum ≡ mixed 4 0 (flat rangeBytes (records most (now (kept .entry)) (now (flags .entry)) 0)) ⌝ }
 {
     let mut i = next_point(kept, flags, 0);
     let mut n = 0;
@@ -198,7 +199,7 @@ pub struct DefaultMeasure {
 pub fn measure_default(s: &[u8], p: usize, kept: &[u32], flags: &mut [u8]) -> DefaultMeasure
     requires { ⌜ Lent (now s) p (now kept) (now flags) ⌝ }
     ensures { λ r. ⌜ r .size ≡ length (newDefault (now (s .entry)) p (now (kept .entry))) ⌝ }
-    ensures { λ r. ⌜ r .sum ≡ checksum (newDefault (now (s .entry)) p (now (kept .entry))) ⌝ }
+    ensures { λ r. ⌜ r .sum ≡ checksum 4 (newDefault (now (s .entry)) p (now (kept .entry))) ⌝ }
     ensures { λ _. ⌜ now (flags .exit) ≡ sets (now (flags .entry)) 0 (flagged (coveredBy (now (s .entry)) p) (now (kept .entry))) ⌝ }
 {
     let most = prepare(flags, s, p, kept);

@@ -6,6 +6,8 @@ use mathlib.Core.Bool.{Bool, true, false}
 use native.Mathlib.Nat.{add-zero}
 use native.Mathlib.Numerals.{add-one}
 use native.Mathlib.Omega.{arith}
+use lib.Dec.{eqb}
+use borrow.Author.Tests.{eqb-true, eqb-false}
 use lib.ListN.{length, getD, set, length-set, length-append}
 use lib.Seq.{sets, length-sets, getD-set-same, getD-set-other}
 use Rattle.laws.specs.Choice.{either}
@@ -23,7 +25,7 @@ use Rattle.uvs.specs.Checksum.{checksum}
 use Rattle.uvs.proofs.ChecksumLaws.{sums-apart}
 use Rattle.selector_tables.specs.Selectors.{Given, given, keepsSelector, badRecord, badKept}
 use Rattle.selector_tables.specs.ByNumber.{slot, badSlot, Source, Readable, Size, Both, tableMax}
-use Rattle.selector_tables.proofs.ByNumberLaws.{slot-like, bad-like}
+use Rattle.selector_tables.proofs.ByNumberLaws.{slot-like, bad-like, same-unlike}
 use Rattle.format14.specs.Format14.{refused8}
 use Rattle.format14.specs.Ends.{from, Written, Lengths, Sums, Sources, Earlier, Refused, Ends, All, Stops, endsAt}
 use Rattle.format14.proofs.SlotsLaws.{written-turn, written-still, behind-turn}
@@ -105,7 +107,7 @@ pub record Measuring (f : ℕ → List ℕ) (m t : ℕ) (ls ss : List ℕ) : Typ
   pub also : m ≤ length ss
   pub each : (j : ℕ) → j < t → getD ls j 0 ≡ length (f j)
   pub small : (j : ℕ) → j < t → getD ls j 0 ≤ tableMax
-  pub sums : (j : ℕ) → j < t → getD ss j 0 ≡ checksum (f j)
+  pub sums : (j : ℕ) → j < t → getD ss j 0 ≡ checksum (4 + j % 2) (f j)
 
 pub measuring-start : (f : ℕ → List ℕ) (m : ℕ) (ls ss : List ℕ) → m ≤ length ls → m ≤ length ss → Measuring f m 0 ls ss
 measuring-start f m ls ss h k = record {
@@ -126,14 +128,14 @@ set-each P l t v r h p j b =
     rw (same, getD-set-same l t v 0 r) p)
     (λ a. rw (getD-set-other l t j v 0 (λ e. omega arith)) (h j a))
 
-pub measuring-on : (g : Given) (m t : ℕ) (ls ss : List ℕ) (r sum : ℕ) → Measuring (slot g) m t ls ss → t < m → Size g t r → sum ≡ checksum (slot g t) → Measuring (slot g) m (t + 1) (set ls t r) (set ss t sum)
+pub measuring-on : (g : Given) (m t : ℕ) (ls ss : List ℕ) (r sum : ℕ) → Measuring (slot g) m t ls ss → t < m → Size g t r → sum ≡ checksum (4 + t % 2) (slot g t) → Measuring (slot g) m (t + 1) (set ls t r) (set ss t sum)
 measuring-on g m t ls ss r sum p h z e = record {
   within = omega arith;
   room = rw length-set (p .room);
   also = rw length-set (p .also);
   each = set-each (λ j v. v ≡ length (slot g j)) ls t r (omega (arith, p .room)) (p .each) (z .is);
   small = set-each (λ j v. v ≤ tableMax) ls t r (omega (arith, p .room)) (p .small) (z .below);
-  sums = set-each (λ j v. v ≡ checksum (slot g j)) ss t sum (omega (arith, p .also)) (p .sums) e;
+  sums = set-each (λ j v. v ≡ checksum (4 + j % 2) (slot g j)) ss t sum (omega (arith, p .also)) (p .sums) e;
 }
 
 module _ (f : ℕ → List ℕ) (m t : ℕ) (ls ss : List ℕ) (p : Measuring f m t ls ss) (h : m ≤ t) where
@@ -189,8 +191,8 @@ module _ (xs : List ℕ) (at len : ℕ) (kept map requested : List ℕ) (t off u
     below = l .small u h;
   }
 
-  pub sum-like : (ss : List ℕ) → Sums (slot like) t ss → getD ss u 0 ≡ checksum (slot like t)
-  sum-like ss l = l .each u h ∙ ap (λ (x : List ℕ). checksum x) (slot-like xs at len kept map requested u t off r source-like s (e .sort))
+  pub sum-like : (ss : List ℕ) → Sums (slot like) t ss → getD ss u 0 ≡ checksum (4 + t % 2) (slot like t)
+  sum-like ss l = rw (e .sort) at (l .each u h) ∙ ap (λ (x : List ℕ). checksum (4 + t % 2) x) (slot-like xs at len kept map requested u t off r source-like s (e .sort))
 
   pub refused-same : (b : Bool) → Refused like t b → Refused like (t + 1) b
   refused-same b d = refused-like like t b d u h (bad-like xs at len kept map requested u t off r source-like s (e .sort))
@@ -276,11 +278,20 @@ slot-room g m stop out₀ k out tail ends p e h z l = filling-room (slot g) m st
 pub unequal : (g : Given) (n t j : ℕ) (ls : List ℕ) → Lengths (slot g) n ls → t < n → j < n → (getD ls t 0 ≡ getD ls j 0 → ⊥) → false ≡ eqList (slot g t) (slot g j)
 unequal g n t j ls q a b h = sym (eqList-length (slot g t) (slot g j) (λ e. h (q .each t a ∙ e ∙ sym (q .each j b))))
 
-pub unequal-sums : (g : Given) (n t j : ℕ) (ss : List ℕ) → Sums (slot g) n ss → t < n → j < n → (getD ss t 0 ≡ getD ss j 0 → ⊥) → false ≡ eqList (slot g t) (slot g j)
-unequal-sums g n t j ss q a b h = sums-apart (slot g t) (slot g j) (λ e. h (q .each t a ∙ e ∙ sym (q .each j b)))
-
 pub both-there : (g : Given) (n t j : ℕ) (ls : List ℕ) → Lengths (slot g) n ls → t < n → j < n → 0 < getD ls t 0 → getD ls t 0 ≡ getD ls j 0 → Both g t j
 both-there g n t j ls q a b h e = record { one = omega (arith, q .each t a); other = omega (arith, q .each t a, q .each j b) }
+
+-- of one sort, or not equal for being of two
+pub unequal-sums : (xs : List ℕ) (at len : ℕ) (kept map requested : List ℕ) (n t j : ℕ) (ls ss : List ℕ) → Readable xs at len kept requested
+    → Lengths (slot (given xs at len kept map requested)) n ls → Sums (slot (given xs at len kept map requested)) n ss → t < n → j < n → 0 < getD ls t 0 → getD ls t 0 ≡ getD ls j 0
+    → (getD ss t 0 ≡ getD ss j 0 → ⊥) → false ≡ eqList (slot (given xs at len kept map requested) t) (slot (given xs at len kept map requested) j)
+unequal-sums xs at len kept map requested n t j ls ss r p q a b l e h =
+    let g = given xs at len kept map requested in
+    by-test (false ≡ eqList (slot g t) (slot g j)) (eqb (t % 2) (j % 2))
+    (λ s.
+    let sort = eqb-true (t % 2) (j % 2) s in
+    sums-apart (4 + j % 2) (slot g t) (slot g j) (λ d. h (rw sort at (q .each t a) ∙ d ∙ sym (q .each j b))))
+    (λ s. same-unlike xs at len kept map requested r t j (both-there g n t j ls p a b l e) (eqb-false (t % 2) (j % 2) s))
 
 pub ruleset unequals = (unequal, unequal-sums)
 

@@ -38,10 +38,10 @@ pub record Lengths (f : ℕ → List ℕ) (m : ℕ) (ls : List ℕ) : Type 0 whe
   pub each : (j : ℕ) → j < m → getD ls j 0 ≡ length (f j)
   pub small : (j : ℕ) → j < m → getD ls j 0 ≤ tableMax
 
--- their checksums
+-- their checksums; the records of default tables, which have even numbers, are of 4 bytes, those of the others of 5
 pub record Sums (f : ℕ → List ℕ) (m : ℕ) (ss : List ℕ) : Type 0 where
   pub room : m ≤ length ss
-  pub each : (j : ℕ) → j < m → getD ss j 0 ≡ checksum (f j)
+  pub each : (j : ℕ) → j < m → getD ss j 0 ≡ checksum (4 + j % 2) (f j)
 
 -- where the sources of t tables stand
 pub record Sources (xs : List ℕ) (at len : ℕ) (kept : List ℕ) (t : ℕ) (ps : List ℕ) : Type 0 where

@@ -1,6 +1,6 @@
 // The new subtable of format 14: which selector records stay, where their tables stand, and its bytes.
 ghost use mathlib.Core.Path.{_≡_};
-ghost use Prim.Native.Nat.{_+_, _*_, _<_, _≤_};
+ghost use Prim.Native.Nat.{_+_, _*_, _%_, _<_, _≤_};
 ghost use lib.ListN.{length, getD};
 ghost use lib.Seq.{sets};
 ghost use Rattle.laws.specs.Pieces.{concat};
@@ -69,7 +69,7 @@ fn measure_one(
     requires { ⌜ Sources (now s) at len (now kept) t (now sources) ⌝ }
     requires { ⌜ Refused (given (now s) at len (now kept) (now map) (now requested)) t refused ⌝ }
     ensures { λ r. ⌜ Size (given (now (s .entry)) at len (now (kept .entry)) (now (map .entry)) (now (requested .entry))) t (r .size) ⌝ }
-    ensures { λ r. ⌜ r .sum ≡ checksum (slot (given (now (s .entry)) at len (now (kept .entry)) (now (map .entry)) (now (requested .entry))) t) ⌝ }
+    ensures { λ r. ⌜ r .sum ≡ checksum (4 + t % 2) (slot (given (now (s .entry)) at len (now (kept .entry)) (now (map .entry)) (now (requested .entry))) t) ⌝ }
     ensures { λ r. ⌜ Refused (given (now (s .entry)) at len (now (kept .entry)) (now (map .entry)) (now (requested .entry))) (t + 1) (r .refused) ⌝ }
 {
     let u = earlier(sources, t, off);

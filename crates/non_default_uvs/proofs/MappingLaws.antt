@@ -1,6 +1,6 @@
 -- Which mappings stay, which glyph a map gives, and which it misses: the code's answers are the definitions'.
 use Prim.Native.Nat.{ℕ, _+_, _-_, _*_, _^_, _<_, _≤_}
-use mathlib.Core.Path.{_≡_, refl, sym, _∙_}
+use mathlib.Core.Path.{_≡_, refl, sym, ap, _∙_}
 use mathlib.Core.List.{List, [], _∷_}
 use mathlib.Core.Bool.{Bool, true, false}
 use native.Mathlib.Omega.{arith}
@@ -20,9 +20,9 @@ use Rattle.laws.specs.Select.{each, select, anyOf, flat}
 use Rattle.laws.specs.Choice.{either}
 use Rattle.laws.proofs.EitherLaws.{either-none}
 use Rattle.laws.proofs.SelectLaws.{each-all, select-yes, select-no, select-end, Counting, counting-end, Copying, copying-start, copying-room, copying-yes, copying-no, copying-end}
-use Rattle.uvs.specs.Checksum.{mixed, checksum}
+use Rattle.uvs.specs.Checksum.{stirred, gathered, mixed, checksum}
 use Rattle.uvs.proofs.TablesLaws.{size-none, size-some}
-use Rattle.uvs.proofs.ChecksumLaws.{mix-both, checksum-table, Summing, summing-end}
+use Rattle.uvs.proofs.ChecksumLaws.{checksum-table, Summing, summing-end}
 use Rattle.uvs.specs.NonDefault.{mapping, mappingAt, mappingBytes, keepsMapping, keptMappings, newNonDefault, missing, badMapping}
 use Rattle.non_default_uvs.specs.Lent.{Count, New}
 
@@ -134,9 +134,13 @@ module _ (xs : List ℕ) (place : ℕ) (map : List ℕ) (g n : ℕ) (hg : Num 2 
 
 pub ruleset bads = (bad-one, bad-same)
 
-pub mix-is : (xs : List ℕ) (place : ℕ) (map : List ℕ) (sum c g n q r : ℕ) → Num 3 xs place c → Num 2 xs (place + 3) g → New map g n
-    → q ≡ mixed sum (enc 3 c) → r ≡ mixed q (enc 2 n) → r ≡ mixed sum (mappingBytes map (mapping xs place))
-mix-is xs place map sum c g n q r hc hg hn e d = rw (← hc .is, ← hg .is, ← hn .is) (mix-both sum (enc 3 c) (enc 2 n) q r e d)
+pub mix-is : (xs : List ℕ) (place : ℕ) (map : List ℕ) (sum c g n r : ℕ) → Num 3 xs place c → Num 2 xs (place + 3) g → New map g n
+    → r ≡ stirred sum (c * 65536 + n) → r ≡ mixed 5 sum (mappingBytes map (mapping xs place))
+unfolding gathered enc
+mix-is xs place map sum c g n r hc hg hn e =
+    let below = hc .below in
+    let low = hn .below in
+    rw (← hc .is, ← hg .is, ← hn .is) (e ∙ ap (stirred sum) (omega (arith, below, low)))
 
 -- the length from the count
 module _ (xs : List ℕ) (p : ℕ) (kept map requested : List ℕ) (m i k : ℕ) (n : Num 4 xs p m) (l : Counting (keepsMapping kept requested) (mappingAt xs p) m i k) (h : m ≤ i) where
@@ -150,12 +154,12 @@ module _ (xs : List ℕ) (p : ℕ) (kept map requested : List ℕ) (m i k : ℕ)
 
 pub ruleset lengths = (length-none, length-some)
 
-pub sum-all : (xs : List ℕ) (p : ℕ) (kept map requested : List ℕ) (m i sum : ℕ) → Num 4 xs p m → Summing (mappingBytes map) (keepsMapping kept requested) (mappingAt xs p) m i sum → m ≤ i
-    → sum ≡ checksum (newNonDefault xs p kept map requested)
+pub sum-all : (xs : List ℕ) (p : ℕ) (kept map requested : List ℕ) (m i sum : ℕ) → Num 4 xs p m → Summing 5 (mappingBytes map) (keepsMapping kept requested) (mappingAt xs p) m i sum → m ≤ i
+    → sum ≡ checksum 5 (newNonDefault xs p kept map requested)
 unfolding newNonDefault
 sum-all xs p kept map requested m i sum n l h =
-    rw (n .is) at (summing-end (mappingBytes map) (keepsMapping kept requested) (mappingAt xs p) m i sum l h)
-    ∙ sym (checksum-table (mappingBytes map) (keptMappings xs p kept requested))
+    rw (n .is) at (summing-end 5 (mappingBytes map) (keepsMapping kept requested) (mappingAt xs p) m i sum l h)
+    ∙ sym (checksum-table 5 (mappingBytes map) (keptMappings xs p kept requested))
 
 -- ---- one mapping written
 

@@ -109,13 +109,13 @@ struct Mixed {
 // The same with one mapping more, which is mixed in as its code point and new glyph.
 fn mix_mapping(sum: u64, bad: bool, s: &[u8], place: usize, map: &[u16]) -> Mixed
     requires { ⌜ place + 5 ≤ length (now s) ⌝ }
-    ensures { λ r. ⌜ r .sum ≡ mixed sum (mappingBytes (now (map .entry)) (mapping (now (s .entry)) place)) ⌝ }
+    ensures { λ r. ⌜ r .sum ≡ mixed 5 sum (mappingBytes (now (map .entry)) (mapping (now (s .entry)) place)) ⌝ }
     ensures { λ r. ⌜ r .bad ≡ either bad (missing (now (map .entry)) (mapping (now (s .entry)) place .1)) ⌝ }
 {
     let c = number::u24_at(s, place);
     let old = number::u16_at(s, place + 3);
     let new = new_glyph(map, old);
-    let longer = uvs::mix_u16(uvs::mix_u24(sum, c), new as u32);
+    let longer = uvs::mix(sum, c as u64 * 65536 + new as u64);
     if new == number::limits::NewGlyph::ABSENT {
         return Mixed {
             sum: longer,
@@ -145,7 +145,7 @@ pub fn measure_non_default(
 ) -> NonDefaultMeasure
     requires { ⌜ Table (now s) p (now kept) (now requested) ⌝ }
     ensures { λ r. ⌜ r .size ≡ length (newNonDefault (now (s .entry)) p (now (kept .entry)) (now (map .entry)) (now (requested .entry))) ⌝ }
-    ensures { λ r. ⌜ r .sum ≡ checksum (newNonDefault (now (s .entry)) p (now (kept .entry)) (now (map .entry)) (now (requested .entry))) ⌝ }
+    ensures { λ r. ⌜ r .sum ≡ checksum 5 (newNonDefault (now (s .entry)) p (now (kept .entry)) (now (map .entry)) (now (requested .entry))) ⌝ }
     ensures { λ r. ⌜ r .bad ≡ badMapping (now (s .entry)) p (now (kept .entry)) (now (map .entry)) (now (requested .entry)) ⌝ }
 {
     let m = number::u32_at(s, p) as usize;

@@ -16,7 +16,7 @@ use Rattle.laws.proofs.EitherLaws.{both-none}
 use Rattle.marks.specs.Marks.{holds}
 use Rattle.number.specs.BigEndian.{be, Num}
 use Rattle.uvs.specs.Tables.{counts, countsDefault, countsNonDefault}
-use Rattle.uvs.specs.Checksum.{mixed, checksum}
+use Rattle.uvs.specs.Checksum.{gathered, checksum}
 use Rattle.uvs.specs.Default.{newDefault}
 use Rattle.uvs.specs.NonDefault.{newNonDefault, badMapping}
 use Rattle.uvs.proofs.TablesLaws.{counts-head, counts-inside}
@@ -195,15 +195,15 @@ module _ (xs : List ℕ) (at len : ℕ) (kept requested : List ℕ) (t off : ℕ
     size-non-default n z h d =
         record { is = rw (non-default-is z h) d; below = omega (arith, d, length-non-default xs (at + off) kept map requested, lent-non-default z h .inside, r .small) }
 
-    pub sum-none : off ≡ 0 → 0 ≡ checksum (slot g t)
-    unfolding checksum mixed
+    pub sum-none : off ≡ 0 → 0 ≡ checksum (4 + t % 2) (slot g t)
+    unfolding checksum gathered
     sum-none z = rw (none z)
 
-    pub sum-default : (n : ℕ) → (off ≡ 0 → ⊥) → t % 2 ≡ 0 → n ≡ checksum (newDefault xs (at + off) kept) → n ≡ checksum (slot g t)
-    sum-default n z e d = rw (default-is z e) d
+    pub sum-default : (n : ℕ) → (off ≡ 0 → ⊥) → t % 2 ≡ 0 → n ≡ checksum 4 (newDefault xs (at + off) kept) → n ≡ checksum (4 + t % 2) (slot g t)
+    sum-default n z e d = rw (default-is z e, e) d
 
-    pub sum-non-default : (n : ℕ) → (off ≡ 0 → ⊥) → (t % 2 ≡ 0 → ⊥) → n ≡ checksum (newNonDefault xs (at + off) kept map requested) → n ≡ checksum (slot g t)
-    sum-non-default n z h d = rw (non-default-is z h) d
+    pub sum-non-default : (n : ℕ) → (off ≡ 0 → ⊥) → (t % 2 ≡ 0 → ⊥) → n ≡ checksum 5 (newNonDefault xs (at + off) kept map requested) → n ≡ checksum (4 + t % 2) (slot g t)
+    sum-non-default n z h d = rw (non-default-is z h, odd-one h) d
 
     pub bad-none : off ≡ 0 → false ≡ badSlot g t
     unfolding badSlot keepsSelector badRecord

@@ -67,7 +67,7 @@ pub fn measure_table(
     requires { ⌜ Numbered (now s) at (now kept) (now flags) t ⌝ }
     requires { ⌜ Source (now s) at len (now kept) t off ⌝ }
     ensures { λ r. ⌜ Size (given (now (s .entry)) at len (now (kept .entry)) (now (map .entry)) (now (requested .entry))) t (r .size) ⌝ }
-    ensures { λ r. ⌜ r .sum ≡ checksum (slot (given (now (s .entry)) at len (now (kept .entry)) (now (map .entry)) (now (requested .entry))) t) ⌝ }
+    ensures { λ r. ⌜ r .sum ≡ checksum (4 + t % 2) (slot (given (now (s .entry)) at len (now (kept .entry)) (now (map .entry)) (now (requested .entry))) t) ⌝ }
     ensures { λ r. ⌜ r .bad ≡ badSlot (given (now (s .entry)) at len (now (kept .entry)) (now (map .entry)) (now (requested .entry))) t ⌝ }
 {
     if off == 0 {

@@ -1,21 +1,28 @@
 -- A checksum of a new table's bytes, by which the code tells most unequal tables apart at once. Nothing that is promised rests on what it is:
--- equal tables have equal checksums because a checksum is made from the bytes alone, and no more is used.
-use Prim.Native.Nat.{ℕ, _+_, _*_, _/_, _%_}
+-- equal tables of one sort have equal checksums because a checksum is made from the bytes alone, and no more is used.
+use Prim.Native.Nat.{ℕ, zero, suc, _+_, _-_, _*_, _/_, _%_}
 use mathlib.Core.List.{List, [], _∷_}
 use lib.ListN.{drop}
 
--- Two halves of 32 bits, each squared modulo a prime of its own, so that no sum of unlike tables is foreseen by adding.
+-- Two halves of 32 bits, each squared and folded, so that no sum of unlike tables is foreseen by adding.
 unfoldable pub stirred : ℕ → ℕ → ℕ
-stirred sum b =
+stirred sum v =
     let high = sum / 4294967296 in
     let low = sum % 4294967296 in
-    (high * high + low + b + 2654435769) % 4294967291 * 4294967296 + (low * low + high + b * 16777619 + 1) % 4294967279
+    let x = high * high + low + v % 2147483648 + 1640531527 in
+    let y = low * low + high + v / 512 % 2147483648 + 1013904223 in
+    (x / 4294967296 * 5 + x % 4294967296) % 4294967296 * 4294967296 + (y / 4294967296 * 17 + y % 4294967296) % 4294967296
 
--- one byte after the other
-unfoldable pub mixed : ℕ → List ℕ → ℕ
-mixed sum [] = sum
-mixed sum (b ∷ bs) = mixed (stirred sum b) bs
+-- Bytes gathered into numbers of `size` bytes, each stirred in once it is whole: v is what there is of one, and k bytes come before its last.
+unfoldable pub gathered : ℕ → ℕ → ℕ → ℕ → List ℕ → ℕ
+gathered size k v sum [] = sum
+gathered size zero v sum (b ∷ bs) = gathered size (size - 1) 0 (stirred sum (v * 256 + b)) bs
+gathered size (suc k) v sum (b ∷ bs) = gathered size k (v * 256 + b) sum bs
 
--- of a table: of the bytes behind its count
-unfoldable pub checksum : List ℕ → ℕ
-checksum t = mixed 0 (drop 4 t)
+-- records of `size` bytes, one after the other
+abbrev pub mixed : ℕ → ℕ → List ℕ → ℕ
+mixed size sum bs = gathered size (size - 1) 0 sum bs
+
+-- of a table: of the records behind its count
+unfoldable pub checksum : ℕ → List ℕ → ℕ
+checksum size t = mixed size 0 (drop 4 t)

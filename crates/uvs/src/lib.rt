@@ -1,9 +1,8 @@
-// When a default or non-default table of a format 14 subtable counts, and a checksum of a new table's bytes, number by number.
+// When a default or non-default table of a format 14 subtable counts, and a checksum of a new table, record by record.
 ghost use mathlib.Core.Path.{_≡_};
 ghost use Prim.Native.Nat.{_+_, _≤_};
 ghost use lib.ListN.{length};
-ghost use Rattle.number.specs.BigEndian.{enc};
-ghost use Rattle.uvs.specs.Checksum.{mixed};
+ghost use Rattle.uvs.specs.Checksum.{stirred};
 ghost use Rattle.uvs.specs.Tables.{counts, countsDefault, countsNonDefault};
 
 // A table of records of `size` bytes, `off` from the start of the subtable.
@@ -36,28 +35,15 @@ pub fn counts_non_default(s: &[u8], at: usize, len: usize, off: u32) -> bool
     counts(s, at, len, off, 5)
 }
 
-// A checksum with one byte more, the lowest of v.
-pub fn mix_byte(sum: u64, v: u32) -> u64
-    ensures { λ r. ⌜ r ≡ mixed sum (enc 1 v) ⌝ }
+// A checksum with one number more, which stands for a record.
+pub fn mix(sum: u64, v: u64) -> u64
+    ensures { λ r. ⌜ r ≡ stirred sum v ⌝ }
 {
-    let b = (v % 256) as u64;
     let high = sum / 4294967296;
     let low = sum % 4294967296;
-    let first = (high * high + low + b + 2654435769) % 4294967291;
-    let second = (low * low + high + b * 16777619 + 1) % 4294967279;
+    let x = high * high + low + v % 2147483648 + 1640531527;
+    let y = low * low + high + v / 512 % 2147483648 + 1013904223;
+    let first = (x / 4294967296 * 5 + x % 4294967296) % 4294967296;
+    let second = (y / 4294967296 * 17 + y % 4294967296) % 4294967296;
     first * 4294967296 + second
-}
-
-// With the lowest two bytes of v.
-pub fn mix_u16(sum: u64, v: u32) -> u64
-    ensures { λ r. ⌜ r ≡ mixed sum (enc 2 v) ⌝ }
-{
-    mix_byte(mix_byte(sum, v / 256), v)
-}
-
-// With the lowest three.
-pub fn mix_u24(sum: u64, v: u32) -> u64
-    ensures { λ r. ⌜ r ≡ mixed sum (enc 3 v) ⌝ }
-{
-    mix_byte(mix_u16(sum, v / 256), v)
 }

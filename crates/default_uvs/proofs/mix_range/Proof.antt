@@ -1,17 +1,20 @@
--- The start of three bytes, then the byte of the points after it.
-use Rattle.uvs.proofs.ChecksumLaws.{mix-both}
+-- The start of three bytes and the byte of the points after it make the number of the record's bytes.
 use borrow.Author.Needs.{needs}
 use Rattle.default_uvs.proofs.mix_range.Statement.{statement}
 use Rattle.default_uvs.proofs.mix_range.Tie as tie
+use Rattle.default_uvs.proofs.StreamLaws.{mix-range-is}
 
-mix-u24-requires : tie.Need-mix-u24-requires
-mix-u24-requires c κs = search needs
+mul-record : tie.Need-mul-record
+mul-record c = search needs
 
-mix-byte-requires : tie.Need-mix-byte-requires
-mix-byte-requires c κs = search needs
+add-record : tie.Need-add-record
+add-record c = search needs
+
+mix-requires : tie.Need-mix-requires
+mix-requires c κs = search needs
 
 returns : tie.Need-returns
-returns c = mix-both _ _ _ _ _ (c .before .mix-u24 .ensures) (c .mix-byte .ensures)
+returns c = mix-range-is _ _ _ _ (c .mix .ensures)
 
 pub mix-range-spec : {M : Type 1} → statement M
-mix-range-spec = tie.close (tie.spec mix-u24-requires mix-byte-requires returns)
+mix-range-spec = tie.close (tie.spec mul-record add-record mix-requires returns)

@@ -7,10 +7,12 @@ use Prim.Native.Nat.{_-_}
 use Rattle.laws.proofs.SelectLaws.{Counting, counting}
 use Rattle.uvs.specs.NonDefault.{mappingAt, mappingBytes, keepsMapping}
 use Rattle.non_default_uvs.proofs.MappingLaws.{Judging, judging, lengths, sum-all}
-use Rattle.uvs.proofs.ChecksumLaws.{Summing, summing}
+use Rattle.uvs.proofs.ChecksumLaws.{Summing, summing-start, summing}
+use lib.ListN.{length-append}
+use Rattle.number.proofs.BigEndianLaws.{length-enc}
 
 abbrev Inv-loop : tie.InvT-loop
-Inv-loop s p kept map requested m i₀ near₀ n₀ sum₀ bad₀ i near n sum bad = Counting (keepsMapping kept requested) (mappingAt s p) m i n × (Summing (mappingBytes map) (keepsMapping kept requested) (mappingAt s p) m i sum × Judging s p kept map requested m i bad)
+Inv-loop s p kept map requested m i₀ near₀ n₀ sum₀ bad₀ i near n sum bad = Counting (keepsMapping kept requested) (mappingAt s p) m i n × (Summing 5 (mappingBytes map) (keepsMapping kept requested) (mappingAt s p) m i sum × Judging s p kept map requested m i bad)
 
 abbrev μ-loop : tie.MeasureT-loop
 μ-loop s p kept map requested m i₀ near₀ n₀ sum₀ bad₀ i near n sum bad = m - i
@@ -22,7 +24,7 @@ cast-m : tie.Need-cast-m Inv-loop μ-loop
 cast-m c = search needs
 
 loop-holds : tie.Need-loop-holds Inv-loop μ-loop
-loop-holds c = (search counting, (search summing, search judging))
+loop-holds c = (search counting, (summing-start _ _ _ _ _ (omega arith) (λ m. rw (length-append, length-enc 3 (m .0), length-enc)), search judging))
 
 add-from : tie.Need-add-from Inv-loop μ-loop
 add-from c = search needs

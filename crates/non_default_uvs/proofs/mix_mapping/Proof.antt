@@ -1,4 +1,4 @@
--- The bytes of the code point, then those of the new glyph; the glyph is missing where the map gives the absent one.
+-- The code point and the new glyph make the number of the mapping's bytes; the glyph is missing where the map gives the absent one.
 use borrow.Author.Needs.{needs}
 use Rattle.non_default_uvs.proofs.mix_mapping.Statement.{statement}
 use Rattle.non_default_uvs.proofs.mix_mapping.Tie as tie
@@ -16,14 +16,20 @@ u16-at-requires c κs = search needs
 new-glyph-requires : tie.Need-new-glyph-requires
 new-glyph-requires c κs = search needs
 
-mix-u24-requires : tie.Need-mix-u24-requires
-mix-u24-requires c κs = search needs
+cast-mix : tie.Need-cast-mix
+cast-mix c = search needs
 
-cast-mix-u16 : tie.Need-cast-mix-u16
-cast-mix-u16 c = search needs
+mul-mix : tie.Need-mul-mix
+mul-mix c = search needs
 
-mix-u16-requires : tie.Need-mix-u16-requires
-mix-u16-requires c κs = search needs
+cast-mix-2 : tie.Need-cast-mix-2
+cast-mix-2 c = search needs
+
+add-mix : tie.Need-add-mix
+add-mix c = search needs
+
+mix-requires : tie.Need-mix-requires
+mix-requires c κs = search needs
 
 returns : tie.Need-returns
 returns c = (search mix-is, search bads)
@@ -39,8 +45,10 @@ mix-mapping-spec =
     add-u16-at
     u16-at-requires
     new-glyph-requires
-    mix-u24-requires
-    cast-mix-u16
-    mix-u16-requires
+    cast-mix
+    mul-mix
+    cast-mix-2
+    add-mix
+    mix-requires
     returns
     returns-2)
