@@ -3,9 +3,9 @@ use Prim.Native.Nat.{ℕ, zero, suc, _+_, _-_, _*_, _/_, _%_, _<_, _≤_}
 use mathlib.Core.Path.{_≡_, refl, sym, ap, _∙_}
 use mathlib.Core.List.{List}
 use mathlib.Core.Bool.{Bool, true, false}
-use mathlib.Core.Logic.{_⊎_, inl, inr, ⊎-elim}
+use mathlib.Core.Logic.{inl, inr}
 use native.Mathlib.Omega.{arith}
-use lib.Dec.{leb, eqb}
+use lib.Dec.{eqb}
 use lib.ListN.{length, getD, set, replicate, length-set, length-replicate, getD-replicate}
 use lib.Seq.{sets, length-sets, getD-set-same, getD-set-other, ext-getD}
 use borrow.Author.Tests.{le-leb, lt-leb, ne-eqb, eqb-true, eqb-false}
@@ -14,9 +14,9 @@ use Rattle.laws.specs.Lists.{Rising}
 use Rattle.laws.specs.Search.{first}
 use Rattle.laws.proofs.ChoiceLaws.{by-test, by-leb}
 use Rattle.laws.proofs.SetsLaws.{getD-sets-in, getD-sets-other}
-use Rattle.marks.specs.Marks.{between, below, flagOf, flagged, Bound, Flags, Inside, Cleared}
+use Rattle.marks.specs.Marks.{between, flagOf, flagged, Bound, Flags, Inside, Cleared}
 use Rattle.marks.proofs.BelowLaws.{below-past, below-upto, inside}
-use Rattle.marks.proofs.MarksLaws.{length-flagged, flag-at}
+use Rattle.marks.proofs.MarksLaws.{length-flagged, flag-at, clear-at}
 use Rattle.mapped4.specs.declared.Segment.{Segment}
 use Rattle.mapped4.specs.Mapped4.{Read4, stops4, holds4, says4, lastSays, among4, maps4}
 use Rattle.mapped4.specs.Downward.{word, decided, Held, Decided, Noted, DecidedBy, Told, Telling, Settled}
@@ -113,12 +113,7 @@ held-at v ps fs₀ fs start end low high j l d h = l .each j (d .order) h
 -- ---- blocks
 
 pub noted-none : (n : ℕ) (fs : List ℕ) → Noted (replicate n 0) fs
-noted-none n fs = record { shut = λ b k s a h z. s (nought n b) }
-  where
-    nought : (n b : ℕ) → getD (replicate {A = ℕ} n 0) b 0 ≡ 0
-    nought zero b = refl
-    nought (suc n) zero = refl
-    nought (suc n) (suc b) = nought n b
+noted-none n fs = record { shut = λ b k s a h z. s (clear-at n b) }
 
 module _ (v : ℕ → Bool) (noted ps fs : List ℕ) (low high : ℕ) (n : Noted noted fs) where
   pub noted-kept : (fs′ : List ℕ) → Decided v ps fs fs′ low high → Noted noted fs′

@@ -299,18 +299,6 @@ fn decide_block(
     }
 }
 
-// The end of the block of place i, or high where that comes first.
-fn block_end(i: usize, high: usize) -> usize
-    requires { ⌜ (i < high) × (high ≤ 65536) ⌝ }
-    ensures { λ r. ⌜ (i < r) × (r ≤ 256 * (i / 256) + 256) × (r ≤ high) ⌝ }
-{
-    let end = i / BLOCK * BLOCK + BLOCK;
-    if high < end {
-        return high;
-    }
-    end
-}
-
 // The same, block by block.
 fn decide_blocks(
     s: &[u8],
@@ -336,7 +324,7 @@ fn decide_blocks(
 {
     let mut j = low;
     while j < high {
-        let end = block_end(j, high);
+        let end = marks::block_end(j, high);
         decide_block(s, at, segs, len, i, segment, points, flags, noted, j, end);
         j = end;
     }
