@@ -11,7 +11,7 @@ use lib.Seq.{sets, set-getD, getD-set-same, getD-set-other}
 use borrow.Author.Tests.{eqb-true, eqb-false}
 use Rattle.laws.proofs.ChoiceLaws.{by-test, by-leb}
 use Rattle.laws.proofs.SetsLaws.{getD-sets-in}
-use Rattle.marks.proofs.MarksLaws.{Filling, filling-part}
+use Rattle.marks.proofs.MarksLaws.{clear-at, Filling, filling-part}
 use Rattle.mapped12.specs.Blocks.{Ones, Full, Part}
 
 -- ---- flags that are set
@@ -53,8 +53,8 @@ module _ (fs : List ℕ) (i high done : ℕ) where
   pub part-known : Ones fs i done → i < done → done < high → Part fs fs i done high
   part-known o h d = passed done o h (omega arith) (omega arith)
 
-  pub part-set : (fs′ : List ℕ) (j : ℕ) → (i < j) × (j ≤ high) → fs′ ≡ sets fs i (replicate (j - i) 1) → Part fs fs′ i j high
-  part-set fs′ j h e = record { is = e; past = h .0; upto = h .1 }
+  pub part-set : (fs′ : List ℕ) (j : ℕ) → (i < j) × (j ≤ 256 * (i / 256) + 256) × (j ≤ high) → fs′ ≡ sets fs i (replicate (j - i) 1) → Part fs fs′ i j high
+  part-set fs′ j h e = record { is = e; past = h .0; upto = h .2 }
 
 pub ruleset parts = (part-all, part-known, part-set)
 
@@ -64,12 +64,7 @@ filling-block l fs′ j p = filling-part l fs′ j (omega (arith, p .past)) (p .
 -- ---- what is full
 
 pub full-none : (k : ℕ) (fs : List ℕ) → Full (replicate k 0) fs
-full-none k fs = record { ones = λ b. record { each = λ i a h. absurd (omega (arith, nought k b)) } }
-  where
-    nought : (k b : ℕ) → getD (replicate {A = ℕ} k 0) b 0 ≡ 0
-    nought zero b = refl
-    nought (suc k) zero = refl
-    nought (suc k) (suc b) = nought k b
+full-none k fs = record { ones = λ b. record { each = λ i a h. absurd (omega (arith, clear-at k b)) } }
 
 module _ (full fs : List ℕ) (f : Full full fs) where
   pub full-here : (i : ℕ) → Ones fs i (getD full (i / 256) 0 * 256)

@@ -97,18 +97,6 @@ pub fn is_mapped12(s: &[u8], at: usize, groups: usize, n: u32, c: u32) -> bool
     false
 }
 
-// The end of the block of place i, or high where that comes first.
-fn block_end(i: usize, high: usize) -> usize
-    requires { ⌜ i < high ⌝ }
-    ensures { λ r. ⌜ (i < r) × (r ≤ high) ⌝ }
-{
-    let rest = BLOCK - i % BLOCK;
-    if high - i < rest {
-        return high;
-    }
-    i + rest
-}
-
 // Sets flags from i on to 1, no further than up to high and to the end of a block, or passes over those before block `noted`, which
 // are 1; up to where.
 fn set_part(flags: &mut [u8], i: usize, high: usize, noted: u16) -> usize
@@ -123,7 +111,7 @@ fn set_part(flags: &mut [u8], i: usize, high: usize, noted: u16) -> usize
     if i < done {
         return done;
     }
-    let j = block_end(i, high);
+    let j = marks::block_end(i, high);
     marks::set_flags(flags, i, j);
     j
 }

@@ -1,2 +1,3 @@
 pub mod Mapped4Laws
 pub mod CasesLaws
+pub mod DownwardLaws

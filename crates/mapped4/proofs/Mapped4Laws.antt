@@ -33,10 +33,10 @@ segment-read xs at s i a b d o p q r t =
 -- ---- the walk
 
 module _ (xs : List ℕ) (at s : ℕ) where
-  stop-on : (i : ℕ) (g : Segment) → Looking (stops4 xs at s) s i → i < s → Read4 xs at s i g → (g .start ≡ 0xFFFF → ⊥) → Looking (stops4 xs at s) s (i + 1)
+  pub stop-on : (i : ℕ) (g : Segment) → Looking (stops4 xs at s) s i → i < s → Read4 xs at s i g → (g .start ≡ 0xFFFF → ⊥) → Looking (stops4 xs at s) s (i + 1)
   stop-on i g l h r e = looking-on l h (rw (r .is) at (ne-eqb (g .start) 0xFFFF e))
 
-  stop-here : (i : ℕ) (g : Segment) → Looking (stops4 xs at s) s i → i < s → Read4 xs at s i g → g .start ≡ 0xFFFF → i ≡ first (stops4 xs at s) s 0
+  pub stop-here : (i : ℕ) (g : Segment) → Looking (stops4 xs at s) s i → i < s → Read4 xs at s i g → g .start ≡ 0xFFFF → i ≡ first (stops4 xs at s) s 0
   stop-here i g l h r e = looking-found l h (rw (r .is) at (eq-eqb (g .start) 0xFFFF e))
 
   module _ (len : ℕ) where
@@ -97,6 +97,8 @@ module _ (xs : List ℕ) (at s : ℕ) where
       collecting-end i l h =
           l .say .is
           ∙ rw (flagged-ext (among4 xs at s len i) (maps4 xs at s len) (λ c. ap (λ n. among4 xs at s len n c) (looking-none (l .looking) h)) ps)
+
+pub ruleset stopping = (looking-start, stop-on, stop-here, looking-none)
 
 pub ruleset walking = (walking-start, walking-on, walking-stop, walking-end)
 

@@ -1,2 +1,3 @@
 pub mod Mapped4
 pub mod Cases
+pub mod Downward

@@ -1,6 +1,6 @@
 // Flags beside a rising list of points: found by halving, set for a stretch of points, and copied by.
 ghost use mathlib.Core.Path.{_≡_};
-ghost use Prim.Native.Nat.{_+_, _-_, _≤_};
+ghost use Prim.Native.Nat.{_+_, _-_, _*_, _/_, _<_, _≤_};
 ghost use lib.Dec.{leb, eqb};
 ghost use lib.ListN.{length, replicate};
 ghost use lib.Seq.{sets};
@@ -248,6 +248,18 @@ pub fn member_glyph(glyphs: &[u16], g: u16) -> bool
         return glyphs[i] == g;
     }
     false
+}
+
+// The end of the block of place i, or high where that comes first. A block is 256 flags.
+pub fn block_end(i: usize, high: usize) -> usize
+    requires { ⌜ i < high ⌝ }
+    ensures { λ r. ⌜ (i < r) × (r ≤ 256 * (i / 256) + 256) × (r ≤ high) ⌝ }
+{
+    let rest = 256 - i % 256;
+    if high - i < rest {
+        return high;
+    }
+    i + rest
 }
 
 // Sets the first n flags to 0.
