@@ -2,12 +2,13 @@
 use Prim.Native.Nat.{ℕ, _+_, _*_, _%_, _<_, _≤_}
 use mathlib.Core.Path.{_≡_}
 use mathlib.Core.List.{List}
-use mathlib.Core.Bool.{Bool}
+use mathlib.Core.Bool.{Bool, true}
 use mathlib.Core.Logic.{_⊎_}
 use lib.Dec.{eqb}
-use lib.ListN.{length, getD}
+use lib.ListN.{length, getD, replicate}
+use lib.Seq.{sets}
 use Rattle.laws.specs.Choice.{pick}
-use Rattle.marks.specs.Marks.{Inside}
+use Rattle.marks.specs.Marks.{Inside, flagged}
 
 -- yes or no
 abbrev pub word : Bool → ℕ
@@ -55,3 +56,8 @@ pub record Settled (n : ℕ) (fs fs′ : List ℕ) : Type 0 where
   pub same : length fs′ ≡ length fs
   pub here : (k : ℕ) → k < n → getD fs′ k 0 ≡ getD fs k 0 % 2
   pub past : (k : ℕ) → n ≤ k → getD fs′ k 0 ≡ getD fs k 0
+
+-- what a walk in order did: all if r says so; in any case the flags, once cleared, are what they were
+pub record Walked (r : Bool) (p : ℕ → Bool) (ps fs₀ fs : List ℕ) : Type 0 where
+  pub all : r ≡ true → fs ≡ sets fs₀ 0 (flagged p ps)
+  pub again : sets fs 0 (replicate (length ps) 0) ≡ fs₀

@@ -8,13 +8,10 @@ ghost use Rattle.laws.specs.Search.{first};
 ghost use Rattle.marks.specs.Marks.{flagged, flagOf, painted, Flags, Inside, Cleared};
 ghost use Rattle.source.specs.Room.{Room4};
 ghost use Rattle.mapped4.specs.Mapped4.{Read4, entry4, says4, holds4, stops4, among4, maps4};
-ghost use Rattle.mapped4.specs.Downward.{decided, Held, Decided, Noted, DecidedBy, Telling, Settled};
+ghost use Rattle.mapped4.specs.Downward.{decided, Held, Decided, Noted, DecidedBy, Telling, Settled, Walked};
 
 // Walking down, what is decided is known in blocks of so many flags.
 const BLOCK: usize = 256;
-
-// For so few points any order of segments is walked as it comes.
-const FEW: usize = 64;
 
 pub struct Segment {
     pub start: u32,
@@ -168,41 +165,38 @@ fn mark_segment(
     span.high
 }
 
-// The walk over the segments, from flags that are clear.
-fn mark_segments(s: &[u8], at: usize, segs: usize, len: usize, points: &[u32], flags: &mut [u8])
+// Whether a segment starts where those before it end or behind: then few points are held twice.
+fn in_order(segment: Segment, past: u32) -> bool {
+    past <= segment.start && segment.start <= segment.end
+}
+
+// The walk over segments in order, from flags that are clear; false where it met one that is not in order, and the flags say nothing.
+fn mark_in_order(
+    s: &[u8],
+    at: usize,
+    segs: usize,
+    len: usize,
+    points: &[u32],
+    flags: &mut [u8],
+) -> bool
     requires { ⌜ Room4 (now s) at segs len ⌝ }
     requires { ⌜ Flags (now points) (now flags) ⌝ }
     requires { ⌜ Cleared (length (now points)) (now flags) ⌝ }
-    ensures { λ _. ⌜ now (flags .exit) ≡ sets (now (flags .entry)) 0 (flagged (maps4 (now (s .entry)) at segs len) (now (points .entry))) ⌝ }
+    ensures { λ r. ⌜ Walked r (maps4 (now (s .entry)) at segs len) (now (points .entry)) (now (flags .entry)) (now (flags .exit)) ⌝ }
 {
     let mut near = 0;
+    let mut past = 0;
     let mut i = 0;
     while i < segs {
         let segment = segment_at(s, at, segs, i);
         if segment.start == Segment::WALK_END {
-            return;
-        }
-        near = mark_segment(s, at, segs, len, i, segment, points, flags, near);
-        i += 1;
-    }
-}
-
-// Whether each walked segment starts at the end of the one before it or behind: then few points are held twice.
-fn in_order(s: &[u8], at: usize, segs: usize) -> bool
-    requires { ⌜ at + 16 + 8 * segs ≤ length (now s) ⌝ }
-{
-    let mut past = 0;
-    let mut i = 0;
-    while i < segs {
-        let start = number::u16_at(s, at + 16 + 2 * segs + 2 * i);
-        if start == Segment::WALK_END {
             return true;
         }
-        let end = number::u16_at(s, at + 14 + 2 * i);
-        if start < past || end < start {
+        if !in_order(segment, past) {
             return false;
         }
-        past = end;
+        near = mark_segment(s, at, segs, len, i, segment, points, flags, near);
+        past = segment.end;
         i += 1;
     }
     true
@@ -404,7 +398,7 @@ fn settle(flags: &mut [u8], n: usize)
     }
 }
 
-// What mark_segments does, in a time that does not grow with how often points are held.
+// The same for segments in any order, in a time that does not grow with how often points are held.
 fn mark_down(s: &[u8], at: usize, segs: usize, len: usize, points: &[u32], flags: &mut [u8])
     requires { ⌜ Room4 (now s) at segs len ⌝ }
     requires { ⌜ Flags (now points) (now flags) ⌝ }
@@ -414,6 +408,20 @@ fn mark_down(s: &[u8], at: usize, segs: usize, len: usize, points: &[u32], flags
     let mut noted = [0u8; 256];
     mark_down_by(s, at, segs, len, points, flags, &mut noted);
     settle(flags, points.len());
+}
+
+// The walk over the segments, from flags that are clear.
+fn mark_segments(s: &[u8], at: usize, segs: usize, len: usize, points: &[u32], flags: &mut [u8])
+    requires { ⌜ Room4 (now s) at segs len ⌝ }
+    requires { ⌜ Flags (now points) (now flags) ⌝ }
+    requires { ⌜ Cleared (length (now points)) (now flags) ⌝ }
+    ensures { λ _. ⌜ now (flags .exit) ≡ sets (now (flags .entry)) 0 (flagged (maps4 (now (s .entry)) at segs len) (now (points .entry))) ⌝ }
+{
+    if mark_in_order(s, at, segs, len, points, flags) {
+        return;
+    }
+    marks::clear(flags, points.len());
+    mark_down(s, at, segs, len, points, flags);
 }
 
 // Sets the flag of each point to whether the subtable maps it.
@@ -430,9 +438,5 @@ pub fn collect_unicodes4(
     ensures { λ _. ⌜ now (flags .exit) ≡ sets (now (flags .entry)) 0 (flagged (maps4 (now (s .entry)) at segs len) (now (points .entry))) ⌝ }
 {
     marks::clear(flags, points.len());
-    if points.len() <= FEW || in_order(s, at, segs) {
-        mark_segments(s, at, segs, len, points, flags);
-        return;
-    }
-    mark_down(s, at, segs, len, points, flags);
+    mark_segments(s, at, segs, len, points, flags);
 }
