@@ -9,7 +9,7 @@ use lib.ListN.{length, getD, drop, length-map, List·getD-append}
 use lib.Seq.{drop-at}
 use borrow.Author.Tests.{le-leb, lt-leb, leb-true, leb-false, eq-eqb, ne-eqb, eqb-true, eqb-false}
 use Rattle.laws.specs.Choice.{pick}
-use Rattle.laws.specs.Lists.{Pair, pairs, Rising}
+use Rattle.laws.specs.Lists.{Pair, pairs}
 use Rattle.laws.specs.Pieces.{concat}
 use Rattle.laws.specs.Listed.{listed}
 use Rattle.laws.specs.Linked.{Each, Filled, Linked}
@@ -18,7 +18,6 @@ use Rattle.laws.proofs.EitherLaws.{true-of-not}
 use Rattle.laws.proofs.EachLaws.{each-of, each-both, each-pieces, each-mapped}
 use Rattle.laws.proofs.ListedLaws.{listed-not, listed-none}
 use Rattle.laws.proofs.LinkedLaws.{linked-filled, pieces-linked}
-use Rattle.laws.proofs.PairsLaws.{firsts-pairs, each-pairs}
 use Rattle.laws.proofs.RisingEachLaws.{Climbs, rising-climbs, climbs-right}
 use Rattle.ranges.specs.declared.Segment.{Segment}
 use Rattle.ranges.specs.Cutting.{nextCode, nextGlyph, rangesOf, runsOf, Cut, cutOf, present, cutRange, cuts, runDelta, firstCode, lastCode, segmentOf, lastEnd, segments, glyphs, arrayOf, glyphArray, closing, entriesOf}
@@ -177,7 +176,3 @@ module _ {A : Type 0} (none : A) (glyph : ℕ → A) (c : ℕ) (small : c < 6553
       let ss = map segmentOf (cuts ps) in
       let z : not (eqb (lastEnd ss) 65535) ≡ false → c ≤ lastEnd ss = λ e. let h = eqb-true (lastEnd ss) 65535 (true-of-not (eqb (lastEnd ss) 65535) e) in omega arith in
       rw (cuts-pairs ps) at (cuts-find (cuts ps) (not (eqb (lastEnd ss) 65535)) z (rw (cuts-pairs ps) r) (cuts-adjacent ps) (cuts-told ps (l .fits)) (cuts-fit ps (l .fits)))
-
--- two slices of equal length as pairs that a table can hold
-pub listed-pairs : (cs gs : List ℕ) → length cs ≡ length gs → Rising cs → Each (λ (n : ℕ). n < 65536) cs → Each (λ (n : ℕ). n < 65536) gs → Listed (pairs cs gs)
-listed-pairs cs gs e r a b = record { rising = rw (firsts-pairs cs gs e) r; fits = each-pairs (λ (n : ℕ). n < 65536) (λ (n : ℕ). n < 65536) cs gs a b }

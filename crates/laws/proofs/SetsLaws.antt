@@ -1,12 +1,12 @@
 -- Stores into a list from a place on: `sets l i vs` is l with vs from i and all else as it was.
 use Prim.Native.Nat.{ℕ, zero, suc, _+_, _<_, _≤_}
-use mathlib.Core.Path.{_≡_, refl, sym, ap, _∙_}
+use mathlib.Core.Path.{_≡_, refl, _∙_}
 use mathlib.Core.List.{List, [], _∷_, _++_}
 use mathlib.Core.Logic.{_⊎_, inl, inr, ⊎-elim}
 use native.Mathlib.Nat.{add-zero, add-suc, suc-add, not-suc-le-zero}
 use native.Mathlib.Omega.{arith}
 use lib.ListN.{length, getD, take, drop, set, length-set}
-use lib.Seq.{sets, sets-eq, getD-set-same, getD-set-other, take-at, drop-at}
+use lib.Seq.{sets, sets-eq, getD-set-same, getD-set-other, take-at}
 
 -- ---- stores that join
 
@@ -38,8 +38,3 @@ pub take-sets : (l vs : List ℕ) → length vs ≤ length l → take (length vs
 take-sets l vs h =
     let z : 0 + length vs ≡ length vs = omega arith in
     rw (sets-eq vs l 0 (rw z h)) (take-at vs (drop (0 + length vs) l) (length vs) refl)
-
-pub drop-sets : (l vs : List ℕ) → length vs ≤ length l → drop (length vs) (sets l 0 vs) ≡ drop (length vs) l
-drop-sets l vs h =
-    let z : 0 + length vs ≡ length vs = omega arith in
-    rw (sets-eq vs l 0 (rw z h), z) (drop-at vs (drop (length vs) l) (length vs) refl)

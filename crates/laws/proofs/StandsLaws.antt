@@ -1,7 +1,7 @@
 -- A list that stands in another at a place: what is read of it there is what is read of it alone.
 use Prim.Native.Nat.{ℕ, _+_, _<_, _≤_}
 use mathlib.Core.Path.{_≡_, ap, _∙_}
-use mathlib.Core.List.{List, _++_, append-assoc}
+use mathlib.Core.List.{List, _++_}
 use native.Mathlib.Nat.{zero-add, add-assoc}
 use native.Mathlib.Omega.{arith}
 use lib.ListN.{length, getD, length-append, List·getD-append}
@@ -18,9 +18,6 @@ stands-append front t back = record {
   inside = rw (length-append, length-append) (omega arith);
   same = λ k h. getD-append-add front (t ++ back) k 0 ∙ List·getD-append t back 0 k h;
 }
-
-pub stands-between : (front t back : List ℕ) → Stands ((front ++ t) ++ back) (length front) t
-stands-between front t back = rw (append-assoc front t back) (stands-append front t back)
 
 -- stored there
 pub stands-sets : (l : List ℕ) (at : ℕ) (t : List ℕ) → at + length t ≤ length l → Stands (sets l at t) at t

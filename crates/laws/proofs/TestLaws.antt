@@ -3,17 +3,8 @@ use Prim.Native.Nat.{ℕ, suc}
 use mathlib.Core.Path.{_≡_, refl, sym, _∙_}
 use mathlib.Core.Bool.{Bool, true, false}
 use native.Mathlib.Omega.{arith}
-use lib.Dec.{eqb}
-use borrow.Author.Tests.{eq-eqb, ne-eqb, eqb-true, eqb-false}
 use Rattle.laws.specs.Choice.{both, ifLt}
 use Rattle.laws.proofs.ChoiceLaws.{by-leb, if-lt, else-lt}
-
-pub eqb-same : (a b p q : ℕ) → (a ≡ b → p ≡ q) → (p ≡ q → a ≡ b) → eqb a b ≡ eqb p q
-eqb-same a b p q f g = go (eqb a b) refl
-  where
-    go : (t : Bool) → eqb a b ≡ t → eqb a b ≡ eqb p q
-    go true e = e ∙ sym (eq-eqb p q (f (eqb-true a b e)))
-    go false e = e ∙ sym (ne-eqb p q (λ h. eqb-false a b e (g h)))
 
 -- the second test need be alike only where the first holds
 pub both-same : (a b c : Bool) → (a ≡ true → b ≡ c) → both a b ≡ both a c

@@ -1,13 +1,13 @@
 -- The laws of big-endian numbers, each proved once over the width.
 use Prim.Native.Nat.{ℕ, zero, suc, _+_, _*_, _/_, _%_, _^_, _<_, _≤_}
-use mathlib.Core.Path.{_≡_, refl, sym, ap, _∙_}
+use mathlib.Core.Path.{_≡_, refl, ap, _∙_}
 use mathlib.Core.List.{List, [], _∷_, _++_}
 use mathlib.Core.Logic.{_⊎_, inl, inr, ⊎-elim}
 use lib.Arith.{mod-mul, digits-div, digits-mod}
 use native.Mathlib.Nat.{pow-suc, add-zero, mod-eq-of-lt, add-assoc}
 use native.Mathlib.Omega.{arith}
 use lib.ListN.{length, getD, take, drop, set, length-append, length-drop, List·getD-append}
-use lib.Seq.{sets, sets-eq, length-sets, getD-append-add, take-suc, getD-drop, getD-at}
+use lib.Seq.{sets, length-sets, getD-append-add, take-suc, getD-drop, getD-at}
 use Rattle.laws.proofs.SetsLaws.{sets-snoc, sets-append, getD-sets-other, getD-sets-in}
 use Rattle.number.specs.BigEndian.{be, enc, put, Bytes, Num, Byte}
 
@@ -90,11 +90,6 @@ put-step w xs at v = rw (sets-snoc xs at (enc w (v / 256)) (v % 256), length-enc
 pub length-put : (w : ℕ) (xs : List ℕ) (at v : ℕ) → length (put w xs at v) ≡ length xs
 unfolding put
 length-put w xs at v = length-sets xs at (enc w v)
-
--- as parts
-pub put-parts : (w : ℕ) (xs : List ℕ) (at v : ℕ) → at + w ≤ length xs → put w xs at v ≡ take at xs ++ enc w v ++ drop (at + w) xs
-unfolding put
-put-parts w xs at v h = sets-eq (enc w v) xs at (rw (length-enc w v) h) ∙ rw (length-enc w v)
 
 -- read at the same place, and at another
 pub be-put : (w : ℕ) (xs : List ℕ) (at v : ℕ) → at + w ≤ length xs → be w (put w xs at v) at ≡ v % 256 ^ w

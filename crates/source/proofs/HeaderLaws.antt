@@ -1,19 +1,17 @@
 -- What an accepted header tells of the source, and which sources give it.
-use Prim.Native.Nat.{ℕ, _+_, _*_, _<_, _≤_}
-use mathlib.Core.Path.{_≡_, refl, sym, subst}
+use Prim.Native.Nat.{ℕ, _+_, _*_, _≤_}
+use mathlib.Core.Path.{_≡_, refl, subst}
 use mathlib.Core.List.{List}
 use mathlib.Core.Bool.{true, false, not}
-use native.Mathlib.Omega.{arith}
 use lib.ListN.{length}
 use lib.Dec.{ltb, eqb}
 use borrow.Author.Tests.{ltb-false, le-ltb, eqb-true, eq-eqb}
-use Rattle.laws.proofs.ChoiceLaws.{by-pick, else-lt}
+use Rattle.laws.proofs.ChoiceLaws.{by-pick}
 use Rattle.laws.proofs.EitherLaws.{not-false, true-of-not, neither-left, neither-right}
 use Rattle.number.specs.Limits.{recordsMax}
 use Rattle.source.specs.declared.Header.{Header}
 use Rattle.source.specs.declared.Header.the-variants.{Records, Refused}
-use Rattle.source.specs.declared.Entry.the-variants.{Record, Missing}
-use Rattle.source.specs.Header.{version, recordCount, refused5, headerOf, recordOf, entryAt}
+use Rattle.source.specs.Header.{version, recordCount, refused5, headerOf}
 
 -- n records follow the header
 pub record Accepted (xs : List ℕ) (n : ℕ) : Type 0 where
@@ -66,7 +64,3 @@ tells-refused xs e = subst Told e (by-pick Told (refused5 xs) Refused (Records (
     Told Refused = refused5 xs ≡ true
 
 -- ---- the records behind an accepted header are there
-
-pub gives-record : {n : ℕ} (xs : List ℕ) (k : ℕ) → Accepted xs n → k < n → entryAt xs k ≡ Record (recordOf xs k)
-unfolding entryAt
-gives-record xs k a h = sym (else-lt (length xs) (12 + 8 * k) Missing (Record (recordOf xs k)) (omega (arith, a .fits)) refl)

@@ -59,7 +59,7 @@ longRanges ps = longest 255 0 ps
 abbrev pub singlePoints : List ℕ → List Pair
 singlePoints ps = map (λ p. (p, 0)) ps
 
--- "if r exceeds kept count times b" there are ranges, else single points
+-- ranges if their number in the source exceeds the kept count times its bit length, else single points
 unfoldable pub inRanges : ℕ → List ℕ → Bool
 inRanges r kept = ltb (length kept * bitLength r) r
 

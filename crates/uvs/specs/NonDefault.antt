@@ -23,7 +23,7 @@ mappingAt xs p i = mapping xs (p + 4 + 5 * i)
 abbrev pub mappings : List ℕ → ℕ → List Pair
 mappings xs p = each (mappingAt xs p) (be 4 xs p) 0
 
--- "keep a mapping if its code point is kept or its old glyph requested"
+-- a mapping stays if its code point is kept or its old glyph is requested
 unfoldable pub keepsMapping : List ℕ → List ℕ → Pair → Bool
 keepsMapping kept requested m = either (holds kept (m .0)) (holds requested (m .1))
 

@@ -1,10 +1,10 @@
 -- Header, records and tables, one behind the other, are the result.
 use Prim.Native.Nat.{ℕ, _+_, _*_, _≤_}
-use mathlib.Core.Path.{_≡_, sym, ap, _∙_}
+use mathlib.Core.Path.{_≡_, sym, ap}
 use mathlib.Core.List.{List, _++_}
 use native.Mathlib.Omega.{arith}
-use lib.ListN.{length, drop}
-use lib.Seq.{sets, sets-eq}
+use lib.ListN.{length}
+use lib.Seq.{sets}
 use Rattle.laws.proofs.SetsLaws.{sets-append}
 use Rattle.number.specs.BigEndian.{enc, put}
 use Rattle.number.proofs.BigEndianLaws.{length-enc}
@@ -14,7 +14,7 @@ use Rattle.result.specs.Result.{written, tablesStart, recordsFrom, tablesBelow,
 use Rattle.writing.specs.Writing.{Planned}
 use Rattle.writing.specs.Parts.{sourced, Laid}
 use Rattle.result.proofs.LengthLaws.{length-records}
-use Rattle.writing.proofs.PlannedLaws.{laid, planned-length}
+use Rattle.writing.proofs.PlannedLaws.{laid}
 use Rattle.writing.proofs.RecordsLaws.{records-sourced}
 
 pub header-is : (out mid fin : List ℕ) (count : ℕ) → mid ≡ put 2 out 0 0 → fin ≡ put 2 mid 2 count → fin ≡ sets out 0 (enc 2 0 ++ enc 2 count)
@@ -56,11 +56,3 @@ module _ (xs cs gs kept map requested : List ℕ) (os : List Outcome) (count : �
         )
 
 pub ruleset whole = (planned-laid, records-room, whole-is)
-
--- what was written stands first, and the output's rest behind it
-pub result-first : (j : Job) (os : List Outcome) (count : ℕ) (fs tocs togs out fin : List ℕ) → Planned j os count fs tocs togs → resultLength os ≤ length out
-    → fin ≡ sets out 0 (resultOf j os) → fin ≡ resultOf j os ++ drop (length (resultOf j os)) out
-result-first j os count fs tocs togs out fin p h e =
-    let z : 0 + length (resultOf j os) ≡ length (resultOf j os) = omega arith in
-    let long = planned-length j os count fs tocs togs p in
-    e ∙ sets-eq (resultOf j os) out 0 (omega (arith, long)) ∙ rw z
