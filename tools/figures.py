@@ -1,24 +1,26 @@
 #!/usr/bin/env python3
-"""docs/FIGURES.md anew: functions, lines of code, definitions, laws and answers of each crate, the time and memory of its check,
-and its must-fail edits. Run it at the repository's root, after rt check:
+"""docs/FIGURES.md anew: functions, lines of code, definitions, laws and answers of each crate, the time and memory of its check, and its
+must-fail edits. Run it at the repository's root, where nothing else runs:
 
-    python3 tools/figures.py [CI-LOG] > docs/FIGURES.md
+    python3 tools/figures.py > docs/FIGURES.md
 
-Each crate is proved once more, alone, for its time and memory. CI-LOG is what .ci/run printed; the time of the whole run and of
-the edits is read from it."""
+It runs .ci/run and watches it. `python3 tools/figures.py LOG PEAKS` goes by an earlier run: what it printed, with a last line as bash's
+`time` gives it, and each crate's KiB as JSON."""
 import glob
+import json
 import os
 import re
 import subprocess
 import sys
+import tempfile
 import time
 
 HEAD = """# Figures
 
-`python3 tools/figures.py CI-LOG > docs/FIGURES.md` prints this page anew; CI-LOG is what `{ time .ci/run; } > CI-LOG 2>&1` wrote.
+`python3 tools/figures.py > docs/FIGURES.md` runs `.ci/run` and prints this page anew.
 
 Lines are those that are neither empty nor a comment. **Code** is src/, contracts included; **definitions** are specs/, what a contract can say; **laws** are the files of proofs/ that stand for no one function;
-**answers** are the functions' own proof files, of which the greater part is the prover's scaffold. **Check** is the crate proved alone, everything below it at hand: seconds of the clock, and the most memory held.
+**answers** are the functions' own proof files, of which the greater part is the prover's scaffold. **Check** is the time of the crate's own check in that run, two at a time, and the most memory that the prover held for it, or for it with an edit.
 """
 
 
@@ -54,46 +56,63 @@ def counted(crate):
             len(glob.glob(f"crates/{crate}/must-fail/*.edit"))]
 
 
-def checked(crate):
-    """Seconds and MiB of one crate's check; its stamp goes first, so that it is proved again."""
-    for stamp in glob.glob(f"target/stamp/{crate}"):
-        os.remove(stamp)
-    began = time.time()
-    child = subprocess.Popen(["rt", "check", crate], stdout=subprocess.DEVNULL, stderr=subprocess.DEVNULL)
-    _, status, usage = os.wait4(child.pid, 0)
-    if status != 0:
-        sys.exit(f"{crate} is not proved")
-    return time.time() - began, usage.ru_maxrss // 1024
+def look(peaks):
+    """Notes the most memory of each check that runs now."""
+    for pid in filter(str.isdigit, os.listdir("/proc")):
+        try:
+            with open(f"/proc/{pid}/cmdline", encoding="utf-8") as f:
+                words = f.read().split("\0")
+            with open(f"/proc/{pid}/status", encoding="utf-8") as f:
+                held = re.search(r"VmHWM:\s+(\d+)", f.read())
+        except OSError:
+            continue
+        if "--crate-name" in words and held:
+            crate = words[words.index("--crate-name") + 1]
+            peaks[crate] = max(peaks.get(crate, 0), int(held.group(1)))
 
 
-def whole(path):
-    """What the log of .ci/run tells of the whole run."""
-    with open(path, encoding="utf-8") as f:
-        text = f.read()
-    edits = [int(n) for n in re.findall(r"must-fail \S+: refused, as it must be \((?:[^()]*; )?(\d+) s\)", text)]
-    last = re.findall(r"\d+ passed, \d+ failed", text)
-    took = re.findall(r"^real\s+(\d+)m([\d.]+)s", text, re.M)
-    said = f"The whole of `.ci/run`: {last[-1] if last else 'no verdict'}"
+def run():
+    """What .ci/run prints, with its time, and each crate's most memory in KiB."""
+    peaks, began = {}, time.time()
+    with tempfile.TemporaryFile("w+", encoding="utf-8") as out:
+        child = subprocess.Popen([".ci/run"], stdout=out, stderr=subprocess.STDOUT)
+        while child.poll() is None:
+            look(peaks)
+            time.sleep(0.5)
+        took = time.time() - began
+        out.seek(0)
+        return out.read() + f"\nreal\t{int(took // 60)}m{took % 60:.1f}s\n", peaks
+
+
+def whole(log):
+    edits = [int(n) for n in re.findall(r"must-fail \S+: refused, as it must be \((?:[^()]*; )?(\d+) s\)", log)]
+    verdict = re.findall(r"\d+ passed, \d+ failed", log)
+    took = re.findall(r"^real\s+(\d+)m([\d.]+)s", log, re.M)
+    said = f"The whole of `.ci/run`: {verdict[-1] if verdict else 'no verdict'}"
     if took:
         said += f", {took[-1][0]} min {float(took[-1][1]):.0f} s on {os.cpu_count()} cores"
-    return said + f"; {len(edits)} must-fail edits refused, in {sum(edits)} seconds of one core."
+    return said + f"; of that {len(edits)} must-fail edits, {sum(edits):,} seconds of one core."
 
 
 def main():
-    rows, sums = [], [0] * 8
-    for crate in crates():
-        row = counted(crate) + list(checked(crate))
-        rows.append((crate, row))
-        sums = [a + b for a, b in zip(sums, row)]
+    if len(sys.argv) > 2:
+        with open(sys.argv[1], encoding="utf-8") as f:
+            log = f.read()
+        with open(sys.argv[2], encoding="utf-8") as f:
+            peaks = json.load(f)
+    else:
+        log, peaks = run()
+    seconds = {name: int(n) for name, n in re.findall(r"^rt: (\w+) proved \((\d+) s\)", log, re.M)}
     print(HEAD)
-    if len(sys.argv) > 1:
-        print(whole(sys.argv[1]) + "\n")
+    print(whole(log) + "\n")
     print("| crate | functions | code | definitions | laws | answers | edits | check s | MiB |")
     print("|---|---:|---:|---:|---:|---:|---:|---:|---:|")
-    for crate, row in rows:
-        print(f"| {crate} | " + " | ".join(f"{n:,}" for n in row[:6]) + f" | {row[6]:.0f} | {row[7]:,} |")
-    most = max(row[7] for _, row in rows)
-    print(f"| **all {len(rows)}** | " + " | ".join(f"{n:,}" for n in sums[:6]) + f" | {sums[6]:.0f} | at most {most:,} |")
+    sums = [0] * 7
+    for crate in crates():
+        row = counted(crate) + [seconds.get(crate, 0)]
+        sums = [a + b for a, b in zip(sums, row)]
+        print(f"| {crate} | " + " | ".join(f"{n:,}" for n in row) + f" | {peaks.get(crate, 0) // 1024:,} |")
+    print(f"| **all {len(crates())}** | " + " | ".join(f"{n:,}" for n in sums) + f" | at most {max(peaks.values(), default=0) // 1024:,} |")
 
 
 if __name__ == "__main__":
