@@ -5,7 +5,7 @@
  *   - The pointer is not null, not even where the count is 0. It is aligned for its element, and count elements can be read there.
  *   - An argument without const can be written too, and overlaps no other argument.
  *   - Nothing else writes to lent memory during a call, nor reads what the call may write.
- *   - The stack has room: 1.5 MiB for cmap_subset, 1 MiB for cmap_fate, whatever the job. The heads take next to none.
+ *   - The stack has room: 1.5 MiB for cmap_subset, 1 MiB for cmap_fate, of which a small job takes a part. The heads take next to none.
  * No call keeps a pointer, allocates, or fails to return.
  *
  * Numbers of refusal, in the order in which they are asked; the first that holds is given, 0 where none does:
