@@ -1,14 +1,14 @@
 -- What the kind of a subtable says of the points it maps, and the listed pairs as two columns.
-use Prim.Native.Nat.{ℕ, _<_}
-use mathlib.Core.Path.{_≡_, sym, ap, _∙_}
+use Prim.Native.Nat.{ℕ, _<_, _≤_}
+use mathlib.Core.Path.{_≡_, refl, sym, ap, _∙_}
 use mathlib.Core.List.{List}
-use mathlib.Core.Bool.{Bool}
 use native.Mathlib.Omega.{arith}
 use lib.ListN.{length, replicate}
-use lib.Seq.{sets}
+use lib.Seq.{sets, length-sets}
 use Rattle.laws.specs.Lists.{Pair, pairs, keep}
 use Rattle.laws.proofs.PairsLaws.{firsts-pairs, seconds-pairs, keep-pairs, length-keep}
 use Rattle.laws.proofs.LengthLaws.{length-map}
+use Rattle.laws.proofs.TakeLaws.{take-counts}
 use Rattle.number.specs.BigEndian.{Bytes}
 use Rattle.source.specs.declared.Kind.{Kind}
 use Rattle.source.specs.declared.Kind.the-variants.{Format4, Format12, Format14, Unreadable}
@@ -18,11 +18,12 @@ use Rattle.source.specs.Kind.{kindAt}
 use Rattle.source.specs.Room.{Room4, Room12}
 use Rattle.records.specs.Records.{leadsTo}
 use Rattle.source.proofs.KindLaws.{room4, room12}
-use Rattle.marks.specs.Marks.{flagged, kept, Flags}
+use Rattle.marks.specs.Marks.{flagged, kept, frontOf, Flags}
 use Rattle.marks.proofs.MarksLaws.{flagged-none, kept-sets}
+use Rattle.marks.proofs.LeadingLaws.{kept-front}
 use Rattle.mapped4.specs.Mapped4.{maps4}
 use Rattle.mapped12.specs.Mapped12.{maps12}
-use Rattle.listing.specs.Listing.{mapsAs, maps, listed, codesOf, glyphsOf, Asked, Beside, Columns}
+use Rattle.listing.specs.Listing.{mapsAs, maps, listed, codesOf, glyphsOf, Asked, Beside, Columns, Lists, Copied}
 
 -- ---- by kind
 
@@ -62,42 +63,58 @@ pub ruleset by-kind = (flags4, flags12, flags14, flags-none)
 
 -- ---- two columns
 
--- the two columns of the pairs that are listed
-module _ (xs : List ℕ) (k n : ℕ) (r : EncodingRecord) (kind : Kind) (cs gs fs tocs togs : List ℕ)
-    (q : r ≡ recordOf xs k) (h : kind ≡ kindAt xs (r .offset)) (c : Columns cs gs tocs togs) where
-  abbrev passes : ℕ → Bool
-  passes = mapsAs kind xs (r .offset) n
+-- the columns of the pairs that are listed: ms are the flags that say what the subtable maps, fs those before
+module _ (xs : List ℕ) (k n : ℕ) (cs gs fs ms tocs togs : List ℕ)
+    (b : Beside n cs fs) (q : ms ≡ sets fs 0 (flagged (maps xs n k) cs)) (c : Columns cs gs tocs togs) where
+  abbrev L : List Pair
+  L = listed xs n cs gs k
 
-  columns : pairs (keep passes cs cs) (keep passes cs gs) ≡ listed xs n cs gs k
-  unfolding listed maps leadsTo
-  columns = keep-pairs passes cs gs (c .even) ∙ rw (h, q)
+  kept-is : (vs : List ℕ) → length vs ≤ length cs → kept ms vs ≡ keep (maps xs n k) cs vs
+  kept-is vs h = ap (λ (l : List ℕ). kept l vs) q ∙ kept-sets (maps xs n k) cs vs fs (b .flagged .beside) h
 
-  pub listed-count : (m : ℕ) → m ≡ length (keep passes cs cs) → m ≡ length (listed xs n cs gs k)
-  listed-count m e =
-      e ∙ ap length (sym (firsts-pairs (keep passes cs cs) (keep passes cs gs) (length-keep passes cs gs (c .even))))
-      ∙ length-map (λ (p : Pair). p .0) (pairs (keep passes cs cs) (keep passes cs gs)) ∙ ap length columns
+  kept-pairs : pairs (kept ms cs) (kept ms gs) ≡ L
+  unfolding listed
+  kept-pairs = rw (kept-is cs (omega arith), kept-is gs (omega (arith, c .even))) (keep-pairs (maps xs n k) cs gs (c .even))
 
-  pub listed-codes : (out : List ℕ) → out ≡ sets tocs 0 (keep passes cs cs) → out ≡ sets tocs 0 (codesOf (listed xs n cs gs k))
-  listed-codes out e = e ∙ ap (sets tocs 0) (sym (firsts-pairs (keep passes cs cs) (keep passes cs gs) (length-keep passes cs gs (c .even))) ∙ ap codesOf columns)
+  kept-even : length (kept ms cs) ≡ length (kept ms gs)
+  kept-even = rw (kept-is cs (omega arith), kept-is gs (omega (arith, c .even))) (length-keep (maps xs n k) cs gs (c .even))
 
-  pub listed-glyphs : (out : List ℕ) → out ≡ sets togs 0 (keep passes cs gs) → out ≡ sets togs 0 (glyphsOf (listed xs n cs gs k))
-  listed-glyphs out e = e ∙ ap (sets togs 0) (sym (seconds-pairs (keep passes cs cs) (keep passes cs gs) (length-keep passes cs gs (c .even))) ∙ ap glyphsOf columns)
+  kept-codes : kept ms cs ≡ codesOf L
+  kept-codes = sym (firsts-pairs (kept ms cs) (kept ms gs) kept-even) ∙ ap codesOf kept-pairs
 
-pub ruleset by-listed = (listed-count, listed-codes, listed-glyphs)
+  kept-glyphs : kept ms gs ≡ glyphsOf L
+  kept-glyphs = sym (seconds-pairs (kept ms cs) (kept ms gs) kept-even) ∙ ap glyphsOf kept-pairs
 
--- what is copied by the flags that say what the subtable maps; fs are the flags before, ms the flags then
-module _ (kind : Kind) (xs : List ℕ) (at n : ℕ) (cs gs fs ms tocs togs : List ℕ) where
-  abbrev picked : List ℕ → List ℕ
-  picked vs = keep (mapsAs kind xs at n) cs vs
+  pub listed-count : (m : ℕ) → m ≡ length (kept ms cs) → m ≡ length L
+  listed-count m e = e ∙ ap length kept-codes ∙ length-map (λ (p : Pair). p .0) L
 
-  module _ (a : Asked kind xs at n cs fs) (q : ms ≡ sets fs 0 (flagged (mapsAs kind xs at n) cs)) (c : Columns cs gs tocs togs) where
-    pub codes-count : (r : ℕ) → r ≡ length (kept ms cs) → r ≡ length (picked cs)
-    codes-count r h = h ∙ ap length (ap (λ (l : List ℕ). kept l cs) q ∙ kept-sets (mapsAs kind xs at n) cs cs fs (a .flagged .beside) (omega arith))
+  pub listed-codes : (out : List ℕ) → out ≡ sets tocs 0 (kept ms cs) → out ≡ sets tocs 0 (codesOf L)
+  listed-codes out e = e ∙ ap (sets tocs 0) kept-codes
 
-    pub codes-copied : (out : List ℕ) → out ≡ sets tocs 0 (kept ms cs) → out ≡ sets tocs 0 (picked cs)
-    codes-copied out h = h ∙ ap (sets tocs 0) (ap (λ (l : List ℕ). kept l cs) q ∙ kept-sets (mapsAs kind xs at n) cs cs fs (a .flagged .beside) (omega arith))
+  pub listed-glyphs : (out : List ℕ) → out ≡ sets togs 0 (kept ms gs) → out ≡ sets togs 0 (glyphsOf L)
+  listed-glyphs out e = e ∙ ap (sets togs 0) kept-glyphs
 
-    pub glyphs-copied : (out : List ℕ) → out ≡ sets togs 0 (kept ms gs) → out ≡ sets togs 0 (picked gs)
-    glyphs-copied out h = h ∙ ap (sets togs 0) (ap (λ (l : List ℕ). kept l gs) q ∙ kept-sets (mapsAs kind xs at n) cs gs fs (a .flagged .beside) (omega (arith, c .even)))
+  flags-there : length cs ≤ length ms
+  flags-there = rw (q, length-sets fs 0 (flagged (maps xs n k) cs)) (b .flagged .beside)
 
-pub ruleset copied = (codes-count, codes-copied, glyphs-copied)
+  pub listed-front : (r : ℕ) → r ≡ frontOf ms (length cs) → r ≤ length cs → 0 < r → Lists L cs gs r r
+  listed-front r e w h =
+      let there = flags-there in
+      let x = kept-front ms cs (length cs) r refl there e h in
+      let y = kept-front ms gs (length cs) r (sym (c .even)) there e h in
+      record {
+        counted = take-counts r cs w ∙ ap length (sym x) ∙ listed-count (length (kept ms cs)) refl;
+        within = w;
+        lent = λ z. sym kept-pairs ∙ rw (x, y);
+      }
+
+  pub front-copies : (r : ℕ) → 0 < r → Copied L r tocs togs tocs togs
+  front-copies r h = record { codes = λ e. absurd (omega arith); glyphs = λ e. absurd (omega arith) }
+
+  pub listed-none : (m : ℕ) → m ≡ length (kept ms cs) → Lists L cs gs m 0
+  listed-none m e = record { counted = listed-count m e; within = omega arith; lent = λ z. absurd (omega arith) }
+
+  pub listed-copies : (ncs ngs : List ℕ) → ncs ≡ sets tocs 0 (kept ms cs) → ngs ≡ sets togs 0 (kept ms gs) → Copied L 0 tocs togs ncs ngs
+  listed-copies ncs ngs x y = record { codes = λ e. listed-codes ncs x; glyphs = λ e. listed-glyphs ngs y }
+
+pub ruleset by-listed = (listed-count, listed-codes, listed-glyphs, listed-front, front-copies, listed-none, listed-copies)

@@ -1,6 +1,7 @@
 -- Which code points a record's subtable maps, and the listed pairs among them (docs/01-rules.md, "Which code points a subtable maps").
 use Prim.Native.Nat.{ℕ, _<_, _≤_}
-use lib.ListN.{length}
+use lib.ListN.{length, take}
+use lib.Seq.{sets}
 use mathlib.Core.Path.{_≡_}
 use mathlib.Core.List.{List, map}
 use mathlib.Core.Bool.{Bool, false}
@@ -54,3 +55,14 @@ pub record Columns (cs gs tocs togs : List ℕ) : Type 0 where
   pub even : length cs ≡ length gs
   pub codes : length cs ≤ length tocs
   pub glyphs : length gs ≤ length togs
+
+-- how many pairs are listed, and how many of the columns' first ones they are; 0 where they are not the first ones, or there are none
+pub record Lists (L : List Pair) (cs gs : List ℕ) (count front : ℕ) : Type 0 where
+  pub counted : count ≡ length L
+  pub within : front ≤ length cs
+  pub lent : 0 < front → L ≡ pairs (take front cs) (take front gs)
+
+-- those that are not the first ones are copied to the front of two other columns
+pub record Copied (L : List Pair) (front : ℕ) (tocs togs ncs ngs : List ℕ) : Type 0 where
+  pub codes : front ≡ 0 → ncs ≡ sets tocs 0 (codesOf L)
+  pub glyphs : front ≡ 0 → ngs ≡ sets togs 0 (glyphsOf L)

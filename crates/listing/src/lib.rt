@@ -3,10 +3,9 @@ use source::Kind;
 ghost use mathlib.Core.Path.{_≡_};
 ghost use lib.ListN.{length};
 ghost use lib.Seq.{sets};
-ghost use Rattle.laws.specs.Lists.{keep};
 ghost use Rattle.records.specs.Records.{Placed};
 ghost use Rattle.marks.specs.Marks.{flagged};
-ghost use Rattle.listing.specs.Listing.{mapsAs, maps, listed, codesOf, glyphsOf, Asked, Beside, Columns};
+ghost use Rattle.listing.specs.Listing.{mapsAs, maps, listed, codesOf, glyphsOf, Asked, Beside, Columns, Lists, Copied};
 
 // Sets the flag of each point to whether the subtable of that kind maps it.
 fn collect_unicodes(s: &[u8], at: usize, kind: Kind, n: u32, points: &[u32], flags: &mut [u8])
@@ -43,29 +42,7 @@ pub fn collect_record(s: &[u8], k: usize, n: u32, points: &[u32], flags: &mut [u
     collect_unicodes(s, at, source::kind_at(s, at), n, points, flags);
 }
 
-// Copies the pairs whose code points the subtable maps to the front of the lent columns; how many.
-fn list_pairs(
-    s: &[u8],
-    at: usize,
-    kind: Kind,
-    n: u32,
-    codes: &[u32],
-    glyphs: &[u16],
-    flags: &mut [u8],
-    tocodes: &mut [u32],
-    toglyphs: &mut [u16],
-) -> usize
-    requires { ⌜ Asked kind (now s) at n (now codes) (now flags) ⌝ }
-    requires { ⌜ Columns (now codes) (now glyphs) (now tocodes) (now toglyphs) ⌝ }
-    ensures { λ r. ⌜ r ≡ length (keep (mapsAs kind (now (s .entry)) at n) (now (codes .entry)) (now (codes .entry))) ⌝ }
-    ensures { λ _. ⌜ now (tocodes .exit) ≡ sets (now (tocodes .entry)) 0 (keep (mapsAs kind (now (s .entry)) at n) (now (codes .entry)) (now (codes .entry))) ⌝ }
-    ensures { λ _. ⌜ now (toglyphs .exit) ≡ sets (now (toglyphs .entry)) 0 (keep (mapsAs kind (now (s .entry)) at n) (now (codes .entry)) (now (glyphs .entry))) ⌝ }
-{
-    collect_unicodes(s, at, kind, n, codes, flags);
-    marks::copy_marked(flags, codes, glyphs, tocodes, toglyphs)
-}
-
-// The same for the subtable that record k leads to.
+// Copies the pairs whose code points the subtable of record k maps to the front of the lent columns; how many.
 pub fn list_record(
     s: &[u8],
     k: usize,
@@ -83,17 +60,41 @@ pub fn list_record(
     ensures { λ _. ⌜ now (tocodes .exit) ≡ sets (now (tocodes .entry)) 0 (codesOf (listed (now (s .entry)) n (now (codes .entry)) (now (glyphs .entry)) k)) ⌝ }
     ensures { λ _. ⌜ now (toglyphs .exit) ≡ sets (now (toglyphs .entry)) 0 (glyphsOf (listed (now (s .entry)) n (now (codes .entry)) (now (glyphs .entry)) k)) ⌝ }
 {
-    let record = records::encoding_record(s, k);
-    let at = record.offset;
-    list_pairs(
-        s,
-        at,
-        source::kind_at(s, at),
-        n,
-        codes,
-        glyphs,
-        flags,
-        tocodes,
-        toglyphs,
-    )
+    collect_record(s, k, n, codes, flags);
+    marks::copy_marked(flags, codes, glyphs, tocodes, toglyphs)
+}
+
+// How many pairs are listed. `front` of them, if it is not 0, are the first of the columns; else they are copied.
+pub struct Listed {
+    pub count: usize,
+    pub front: usize,
+}
+
+// The pairs whose code points the subtable of record k maps, copied only where they are not the first ones.
+pub fn list_front(
+    s: &[u8],
+    k: usize,
+    n: u32,
+    codes: &[u32],
+    glyphs: &[u16],
+    flags: &mut [u8],
+    tocodes: &mut [u32],
+    toglyphs: &mut [u16],
+) -> Listed
+    requires { ⌜ Placed (now s) k ⌝ }
+    requires { ⌜ Beside n (now codes) (now flags) ⌝ }
+    requires { ⌜ Columns (now codes) (now glyphs) (now tocodes) (now toglyphs) ⌝ }
+    ensures { λ r. ⌜ Lists (listed (now (s .entry)) n (now (codes .entry)) (now (glyphs .entry)) k) (now (codes .entry)) (now (glyphs .entry)) (r .count) (r .front) ⌝ }
+    ensures { λ r. ⌜ Copied (listed (now (s .entry)) n (now (codes .entry)) (now (glyphs .entry)) k) (r .front) (now (tocodes .entry)) (now (toglyphs .entry)) (now (tocodes .exit)) (now (toglyphs .exit)) ⌝ }
+{
+    collect_record(s, k, n, codes, flags);
+    let front = marks::front(flags, codes.len());
+    if 0 < front {
+        return Listed {
+            count: front,
+            front,
+        };
+    }
+    let count = marks::copy_marked(flags, codes, glyphs, tocodes, toglyphs);
+    Listed { count, front: 0 }
 }

@@ -12,7 +12,9 @@ use Rattle.laws.specs.Select.{select}
 use Rattle.laws.proofs.ChoiceLaws.{both-right, false-true}
 use Rattle.laws.proofs.SetsLaws.{take-sets}
 use Rattle.laws.proofs.LengthLaws.{length-map, length-pairs, length-select}
+use Rattle.laws.proofs.PairsLaws.{firsts-pairs}
 use Rattle.number.specs.BigEndian.{Bytes}
+use Rattle.number.specs.Limits.{pairsMax}
 use Rattle.number.proofs.BigEndianLaws.{be-lt}
 use Rattle.source.specs.declared.Kind.{Kind}
 use Rattle.source.specs.declared.Kind.the-variants.{Format4, Format12, Format14, Unreadable}
@@ -20,7 +22,7 @@ use Rattle.source.specs.Kind.{formatOf}
 use Rattle.source.specs.Header.{offsetOf}
 use Rattle.records.specs.Records.{leadsTo}
 use Rattle.mapped4.specs.Mapped4.{maps4, lastSays, segment4}
-use Rattle.listing.specs.Listing.{mapsAs, maps, listed, codesOf, glyphsOf}
+use Rattle.listing.specs.Listing.{mapsAs, maps, listed, codesOf, glyphsOf, Lists, Copied}
 use lib.Dec.{leb}
 use borrow.Author.Tests.{leb-true}
 use Rattle.format12.proofs.TableLaws.{length-table}
@@ -31,7 +33,7 @@ use Rattle.format4.specs.Format4.{format4}
 use Rattle.format4.specs.Size.{sizeOf as sizeOf4, lengthOf as lengthOf4, Columns as Columns4}
 use Rattle.format12.specs.declared.Size.{Size as Size12}
 use Rattle.format12.specs.Format12.{format12, groups, sizeOf as sizeOf12, Columns as Columns12, Room as Room12}
-use Rattle.making.specs.Making.{Pairs, Leads, Fits4}
+use Rattle.making.specs.Making.{Pairs, Leads, Fits4, Fronts}
 use Rattle.making.specs.Front.{Front}
 
 -- ---- a part of a column
@@ -43,7 +45,16 @@ module _ (m : ℕ) (cs gs : List ℕ) (f : Front m cs gs) where
   pub front-glyphs : m ≡ length (take m gs)
   front-glyphs = sym (length-take-le m gs (f .glyphs))
 
-pub ruleset fronts = (front-codes, front-glyphs)
+  front-even : length (take m cs) ≡ length (take m gs)
+  front-even = sym front-codes ∙ front-glyphs
+
+  front-few : length (take m cs) ≤ pairsMax
+  front-few = rw (← front-codes) (f .few)
+
+  pub front12 : Columns12 (take m cs) (take m gs)
+  front12 = record { even = sym front-even; few = front-few }
+
+pub ruleset fronts = (front-codes, front-glyphs, front12)
 
 -- ---- pairs and their columns
 
@@ -100,106 +111,151 @@ listed-below xs n cs gs k b l i = select-below (maps xs n k) 65536 (omega arith)
     go (Format14 r len) f c e = absurd (omega arith)
     go Unreadable f c e = absurd (omega arith)
 
--- ---- what list_record leaves
+-- ---- where the listed pairs are
 
--- the first m places of the columns hold the listed pairs L
+-- the source is bytes, as one fact
+pub record Known (xs : List ℕ) : Type 0 where
+  pub bytes : Bytes xs
+
+pub known : {xs : List ℕ} {k n : ℕ} {cs gs fs tocs togs : List ℕ} → Pairs xs k n cs gs fs tocs togs → Bytes xs → Known xs
+known p y = record { bytes = y }
+
+-- the first m entries of two columns are the pairs L
 pub record Holds (m : ℕ) (cs gs : List ℕ) (L : List Pair) : Type 0 where
-  pub count : m ≡ length L
-  pub codes : take m cs ≡ codesOf L
-  pub glyphs : take m gs ≡ glyphsOf L
   pub front : Front m cs gs
+  pub is : pairs (take m cs) (take m gs) ≡ L
 
-module _ (xs : List ℕ) (k n : ℕ) (cs gs fs tocs togs ncs ngs : List ℕ) (m : ℕ) where
+module _ {m : ℕ} {cs gs : List ℕ} {L : List Pair} (h : Holds m cs gs L) where
+  pub is-size4 : (r : Size4) → r ≡ sizeOf4 (pairs (take m cs) (take m gs)) → r ≡ sizeOf4 L
+  is-size4 r e = e ∙ ap sizeOf4 (h .is)
+
+  pub is-size12 : (r : Size12) → r ≡ sizeOf12 (pairs (take m cs) (take m gs)) → r ≡ sizeOf12 L
+  is-size12 r e = e ∙ ap (λ (l : List Pair). sizeOf12 l) (h .is)
+
+  pub asks-fits4 : (at l : ℕ) → Fits4 L at l → Fits4 (pairs (take m cs) (take m gs)) at l
+  asks-fits4 at l f = rw (h .is) f
+
+  pub asks-room12 : (language at l : ℕ) → at + length (format12 language L) ≤ l → at + length (format12 language (pairs (take m cs) (take m gs))) ≤ l
+  asks-room12 language at l f = rw (h .is) f
+
+  pub wrote4 : (language at : ℕ) (out next : List ℕ) → next ≡ sets out at (format4 language (pairs (take m cs) (take m gs))) → next ≡ sets out at (format4 language L)
+  wrote4 language at out next e = rw (h .is) at e
+
+  pub wrote12 : (language at : ℕ) (out next : List ℕ) → next ≡ sets out at (format12 language (pairs (take m cs) (take m gs))) → next ≡ sets out at (format12 language L)
+  wrote12 language at out next e = rw (h .is) at e
+
+  low : ((i : ℕ) → getD (codesOf L) i 0 < 65536) → Columns4 (take m cs) (take m gs)
+  low u =
+      let even = front-even m cs gs (h .front) in
+      let codes : take m cs ≡ codesOf L = sym (firsts-pairs (take m cs) (take m gs) even) ∙ ap codesOf (h .is) in
+      record { even = even; few = front-few m cs gs (h .front); low = λ i. rw codes (u i) }
+
+module _ (xs : List ℕ) (k n : ℕ) (cs gs fs tocs togs : List ℕ) (p : Pairs xs k n cs gs fs tocs togs) where
   abbrev L : List Pair
   L = listed xs n cs gs k
 
-  pub holds : Pairs xs k n cs gs fs tocs togs → m ≡ length L → ncs ≡ sets tocs 0 (codesOf L) → ngs ≡ sets togs 0 (glyphsOf L) → Holds m ncs ngs L
-  holds p e a b =
-      let lc = length-map (λ (q : Pair). q .0) L in
-      let lg = length-map (λ (q : Pair). q .1) L in
-      let u = length-listed xs n cs gs k in
-      record {
-        count = e;
-        codes = rw (a, e, ← lc) (take-sets tocs (codesOf L) (omega (arith, p .columns .codes)));
-        glyphs = rw (b, e, ← lg) (take-sets togs (glyphsOf L) (omega (arith, p .columns .glyphs, p .columns .even)));
-        front = record {
-          codes = rw (a, length-sets tocs 0 (codesOf L)) (omega (arith, p .columns .codes));
-          glyphs = rw (b, length-sets togs 0 (glyphsOf L)) (omega (arith, p .columns .glyphs, p .columns .even));
-        };
-      }
+  below : Known xs → Leads xs k 4 → (i : ℕ) → getD (codesOf L) i 0 < 65536
+  below y l = listed-below xs n cs gs k (y .bytes) l
 
-module _ {m : ℕ} {cs gs : List ℕ} {L : List Pair} (h : Holds m cs gs L) where
-  pub held-pairs : pairs (take m cs) (take m gs) ≡ L
-  held-pairs = rw (h .codes, h .glyphs) (pairs-columns L)
+  -- copied
+  module _ (ncs ngs : List ℕ) (m : ℕ) (e : m ≡ length L) (a : ncs ≡ sets tocs 0 (codesOf L)) (b : ngs ≡ sets togs 0 (glyphsOf L)) where
+    pub copied : Holds m ncs ngs L
+    copied =
+        let lc = length-map (λ (q : Pair). q .0) L in
+        let lg = length-map (λ (q : Pair). q .1) L in
+        let u = length-listed xs n cs gs k in
+        let codes : take m ncs ≡ codesOf L = rw (a, e, ← lc) (take-sets tocs (codesOf L) (omega (arith, p .columns .codes))) in
+        let glyphs : take m ngs ≡ glyphsOf L = rw (b, e, ← lg) (take-sets togs (glyphsOf L) (omega (arith, p .columns .glyphs, p .columns .even))) in
+        record {
+          front = record {
+            codes = rw (a, length-sets tocs 0 (codesOf L)) (omega (arith, p .columns .codes));
+            glyphs = rw (b, length-sets togs 0 (glyphsOf L)) (omega (arith, p .columns .glyphs, p .columns .even));
+            few = omega (arith, p .few);
+          };
+          is = rw (codes, glyphs) (pairs-columns L);
+        }
 
-  pub held-even : length (take m cs) ≡ length (take m gs)
-  held-even = length-take-le m cs (h .front .codes) ∙ sym (length-take-le m gs (h .front .glyphs))
+    pub copied-front : Front m ncs ngs
+    copied-front = copied .front
 
--- ---- what sizes and writers ask of the columns
+    pub copied-low : Known xs → Leads xs k 4 → Columns4 (take m ncs) (take m ngs)
+    copied-low y l = low copied (below y l)
 
-module _ (xs : List ℕ) (k n : ℕ) (cs gs fs tocs togs ncs ngs : List ℕ) (m : ℕ)
-    (p : Pairs xs k n cs gs fs tocs togs) (e : m ≡ length (listed xs n cs gs k))
-    (a : ncs ≡ sets tocs 0 (codesOf (listed xs n cs gs k))) (b : ngs ≡ sets togs 0 (glyphsOf (listed xs n cs gs k))) where
-  held : Holds m ncs ngs (listed xs n cs gs k)
-  held = holds xs k n cs gs fs tocs togs ncs ngs m p e a b
+  -- the first of the lent columns
+  module _ (front : ℕ) (f : Fronts xs n cs gs k front) (h : 0 < front) where
+    pub lent : Holds front cs gs L
+    lent =
+        record {
+          front = record { codes = f .within; glyphs = omega (arith, f .within, p .columns .even); few = omega (arith, f .within, p .few) };
+          is = sym (f .is h);
+        }
 
-  pub asks-front : Front m ncs ngs
-  asks-front = held .front
+    pub lent-front : Front front cs gs
+    lent-front = lent .front
 
-  pub asks12 : Columns12 (take m ncs) (take m ngs)
-  asks12 = record {
-    even = sym (held-even held);
-    few = rw (← front-codes m ncs ngs (held .front)) (omega (arith, e, length-listed xs n cs gs k, p .few));
-  }
+    pub lent-low : Known xs → Leads xs k 4 → Columns4 (take front cs) (take front gs)
+    lent-low y l = low lent (below y l)
 
-  pub asks4 : Bytes xs → Leads xs k 4 → Columns4 (take m ncs) (take m ngs)
-  asks4 y l = record {
-    even = held-even held;
-    few = rw (← front-codes m ncs ngs (held .front)) (omega (arith, e, length-listed xs n cs gs k, p .few));
-    low = λ i. rw (held .codes) (listed-below xs n cs gs k y l i);
-  }
+  -- one or the other
+  module _ (count front : ℕ) (l : Lists L cs gs count front) where
+    pub noted : Fronts xs n cs gs k front
+    noted = record { within = l .within; is = l .lent }
 
-  pub is-size4 : (r : Size4) → r ≡ sizeOf4 (pairs (take m ncs) (take m ngs)) → r ≡ sizeOf4 (listed xs n cs gs k)
-  is-size4 r h = h ∙ ap sizeOf4 (held-pairs held)
+    module _ (h : 0 < front) where
+      pub first : Holds front cs gs L
+      first = lent front noted h
 
-  pub is-size12 : (r : Size12) → r ≡ sizeOf12 (pairs (take m ncs) (take m ngs)) → r ≡ sizeOf12 (listed xs n cs gs k)
-  is-size12 r h = h ∙ ap (λ (l : List Pair). sizeOf12 l) (held-pairs held)
+      pub first-front : Front front cs gs
+      first-front = first .front
 
-  pub wrote4 : (language at : ℕ) (out next : List ℕ) → next ≡ sets out at (format4 language (pairs (take m ncs) (take m ngs))) → next ≡ sets out at (format4 language (listed xs n cs gs k))
-  wrote4 language at out next h = rw (held-pairs held) at h
+      pub first-low : Known xs → Leads xs k 4 → Columns4 (take front cs) (take front gs)
+      first-low = lent-low front noted h
 
-  pub wrote12 : (language at : ℕ) (out next : List ℕ) → next ≡ sets out at (format12 language (pairs (take m ncs) (take m ngs))) → next ≡ sets out at (format12 language (listed xs n cs gs k))
-  wrote12 language at out next h = rw (held-pairs held) at h
+    module _ (ncs ngs : List ℕ) (c : Copied L front tocs togs ncs ngs) (h : front ≤ 0) where
+      none : front ≡ 0
+      none = omega arith
 
-  module _ (at l : ℕ) (f : Fits4 (listed xs n cs gs k) at l) (r : Size4) (h : r ≡ sizeOf4 (pairs (take m ncs) (take m ngs))) where
-    fitted : r ≡ Fits (f .counter)
-    fitted = is-size4 r h ∙ f .is
+      pub rest : Holds count ncs ngs L
+      rest = copied ncs ngs count (l .counted) (c .codes none) (c .glyphs none)
 
-    pub fits-room : (counter : RangeCounter) → r ≡ Fits counter → at + lengthOf4 counter ≤ l
-    fits-room counter e =
-        let z : Fits (f .counter) ≡ Fits counter = sym fitted ∙ e in
-        let y : f .counter ≡ counter = cc in
-        rw y at (f .room)
+      pub rest-front : Front count ncs ngs
+      rest-front = rest .front
 
-    pub not-empty : {A : Type 0} (a b : A) → r ≡ Empty → a ≡ b
-    not-empty a b e =
-        let z : Fits (f .counter) ≡ Empty = sym fitted ∙ e in
-        let y : _≡_ {A = ℕ} 0 1 = cc in
-        absurd (omega arith)
+      pub rest-low : Known xs → Leads xs k 4 → Columns4 (take count ncs) (take count ngs)
+      rest-low = copied-low ncs ngs count (l .counted) (c .codes none) (c .glyphs none)
 
-    pub not-long : {A : Type 0} (a b : A) → r ≡ TooLong → a ≡ b
-    not-long a b e =
-        let z : Fits (f .counter) ≡ TooLong = sym fitted ∙ e in
-        let y : _≡_ {A = ℕ} 0 1 = cc in
-        absurd (omega arith)
+pub ruleset made = (is-size4, is-size12, asks-fits4, asks-room12, wrote4, wrote12, copied, copied-front, copied-low, lent, lent-front, lent-low, noted, first, first-front, first-low, rest, rest-front, rest-low)
 
-  pub groups-room : (language at l : ℕ) → at + length (format12 language (listed xs n cs gs k)) ≤ l → (r : Size12) → r ≡ sizeOf12 (pairs (take m ncs) (take m ngs))
-      → Room12 (pairs (take m ncs) (take m ngs)) (r .groups) at l
-  groups-room language at l f r h =
-      let g : r .groups ≡ length (groups (pairs (take m ncs) (take m ngs))) = ap (λ (z : Size12). z .groups) h in
-      record {
-        found = g;
-        fits = rw (g, held-pairs held) (rw (length-table 12 language (groups (listed xs n cs gs k))) at f);
-      }
+-- ---- what a size tells
 
-pub ruleset made = (asks-front, asks12, is-size4, is-size12, wrote4, wrote12, fits-room, not-empty, not-long, groups-room)
+module _ (L : List Pair) (at l : ℕ) (f : Fits4 L at l) (r : Size4) (h : r ≡ sizeOf4 L) where
+  fitted : r ≡ Fits (f .counter)
+  fitted = h ∙ f .is
+
+  pub fits-room : (counter : RangeCounter) → r ≡ Fits counter → at + lengthOf4 counter ≤ l
+  fits-room counter e =
+      let z : Fits (f .counter) ≡ Fits counter = sym fitted ∙ e in
+      let y : f .counter ≡ counter = cc in
+      rw y at (f .room)
+
+  pub fits-size : (counter : RangeCounter) → r ≡ Fits counter → sizeOf4 L ≡ Fits counter
+  fits-size counter e = sym h ∙ e
+
+  pub not-empty : {A : Type 0} (a b : A) → r ≡ Empty → a ≡ b
+  not-empty a b e =
+      let z : Fits (f .counter) ≡ Empty = sym fitted ∙ e in
+      let y : _≡_ {A = ℕ} 0 1 = cc in
+      absurd (omega arith)
+
+  pub not-long : {A : Type 0} (a b : A) → r ≡ TooLong → a ≡ b
+  not-long a b e =
+      let z : Fits (f .counter) ≡ TooLong = sym fitted ∙ e in
+      let y : _≡_ {A = ℕ} 0 1 = cc in
+      absurd (omega arith)
+
+pub groups-room : (L : List Pair) (language at l : ℕ) → at + length (format12 language L) ≤ l → (r : Size12) → r ≡ sizeOf12 L → Room12 L (r .groups) at l
+groups-room L language at l f r h =
+    let g : r .groups ≡ length (groups L) = ap (λ (z : Size12). z .groups) h in
+    record { found = g; fits = rw g (rw (length-table 12 language (groups L)) at f) }
+
+pub ruleset measured = (fits-room, fits-size, not-empty, not-long, groups-room)

@@ -1,13 +1,13 @@
 -- What is asked for to make a format 4 or 12 subtable of the pairs that a record's subtable maps.
-use Prim.Native.Nat.{ℕ, _+_, _≤_}
+use Prim.Native.Nat.{ℕ, _+_, _<_, _≤_}
 use mathlib.Core.Path.{_≡_}
 use mathlib.Core.List.{List}
-use lib.ListN.{length}
-use Rattle.laws.specs.Lists.{Pair}
+use lib.ListN.{length, take}
+use Rattle.laws.specs.Lists.{Pair, pairs}
 use Rattle.number.specs.Limits.{pairsMax}
 use Rattle.source.specs.Kind.{formatOf}
 use Rattle.records.specs.Records.{leadsTo, Placed}
-use Rattle.listing.specs.Listing.{Beside, Columns}
+use Rattle.listing.specs.Listing.{listed, Beside, Columns}
 use Rattle.format4.specs.declared.RangeCounter.{RangeCounter}
 use Rattle.format4.specs.declared.Size.the-variants.{Fits}
 use Rattle.format4.specs.Size.{sizeOf as sizeOf4, lengthOf as lengthOf4}
@@ -28,3 +28,8 @@ pub record Fits4 (ps : List Pair) (at l : ℕ) : Type 0 where
   pub counter : RangeCounter
   pub is : sizeOf4 ps ≡ Fits counter
   pub room : at + lengthOf4 counter ≤ l
+
+-- what a plan notes of a record's listed pairs: how many they are, where they are the first of the lent columns; else 0
+pub record Fronts (xs : List ℕ) (n : ℕ) (codes glyphs : List ℕ) (k front : ℕ) : Type 0 where
+  pub within : front ≤ length codes
+  pub is : 0 < front → listed xs n codes glyphs k ≡ pairs (take front codes) (take front glyphs)

@@ -9,8 +9,8 @@ ghost use Rattle.listing.specs.Listing.{listed};
 ghost use Rattle.format4.specs.declared.Size.the-variants.{Fits};
 ghost use Rattle.format4.specs.Format4.{format4};
 ghost use Rattle.format4.specs.Size.{sizeOf as sizeOf4, lengthOf as lengthOf4, Columns as Columns4};
-ghost use Rattle.format12.specs.Format12.{format12, sizeOf as sizeOf12, Columns as Columns12, Room as Room12};
-ghost use Rattle.making.specs.Making.{Pairs, Leads, Fits4};
+ghost use Rattle.format12.specs.Format12.{format12, sizeOf as sizeOf12, Room as Room12};
+ghost use Rattle.making.specs.Making.{Pairs, Leads, Fits4, Fronts};
 ghost use Rattle.making.specs.Front.{Front};
 
 // The size of the format 4 subtable of the first m pairs.
@@ -20,6 +20,12 @@ fn size4_of(codes: &[u32], glyphs: &[u16], m: usize) -> format4::Size
     ensures { λ r. ⌜ r ≡ sizeOf4 (pairs (take m (now (codes .entry))) (take m (now (glyphs .entry)))) ⌝ }
 {
     format4::format4_size(&codes[..m], &glyphs[..m])
+}
+
+// The size of a format 4 subtable, and how many pairs at the front are all that it is made of; 0 where they are not the first ones.
+pub struct Sized4 {
+    pub size: format4::Size,
+    pub front: usize,
 }
 
 // The size of the format 4 subtable that record k makes.
@@ -32,22 +38,34 @@ pub fn size4(
     flags: &mut [u8],
     tocodes: &mut [u32],
     toglyphs: &mut [u16],
-) -> format4::Size
+) -> Sized4
     requires { ⌜ Pairs (now s) k n (now codes) (now glyphs) (now flags) (now tocodes) (now toglyphs) ⌝ }
     requires { ⌜ Leads (now s) k 4 ⌝ }
-    ensures { λ r. ⌜ r ≡ sizeOf4 (listed (now (s .entry)) n (now (codes .entry)) (now (glyphs .entry)) k) ⌝ }
+    ensures { λ r. ⌜ r .size ≡ sizeOf4 (listed (now (s .entry)) n (now (codes .entry)) (now (glyphs .entry)) k) ⌝ }
+    ensures { λ r. ⌜ Fronts (now (s .entry)) n (now (codes .entry)) (now (glyphs .entry)) k (r .front) ⌝ }
 {
-    let m = listing::list_record(s, k, n, codes, glyphs, flags, tocodes, toglyphs);
-    size4_of(tocodes, toglyphs, m)
+    let listed = listing::list_front(s, k, n, codes, glyphs, flags, tocodes, toglyphs);
+    let front = listed.front;
+    if 0 < front {
+        let size = size4_of(codes, glyphs, front);
+        return Sized4 { size, front };
+    }
+    let size = size4_of(tocodes, toglyphs, listed.count);
+    Sized4 { size, front }
 }
 
 // The size of the format 12 subtable of the first m pairs.
 fn size12_of(codes: &[u32], glyphs: &[u16], m: usize) -> format12::Size
     requires { ⌜ Front m (now codes) (now glyphs) ⌝ }
-    requires { ⌜ Columns12 (take m (now codes)) (take m (now glyphs)) ⌝ }
     ensures { λ r. ⌜ r ≡ sizeOf12 (pairs (take m (now (codes .entry))) (take m (now (glyphs .entry)))) ⌝ }
 {
     format12::format12_size(&codes[..m], &glyphs[..m])
+}
+
+// The same for format 12.
+pub struct Sized12 {
+    pub size: format12::Size,
+    pub front: usize,
 }
 
 // The size of the format 12 subtable that record k makes.
@@ -60,15 +78,22 @@ pub fn size12(
     flags: &mut [u8],
     tocodes: &mut [u32],
     toglyphs: &mut [u16],
-) -> format12::Size
+) -> Sized12
     requires { ⌜ Pairs (now s) k n (now codes) (now glyphs) (now flags) (now tocodes) (now toglyphs) ⌝ }
-    ensures { λ r. ⌜ r ≡ sizeOf12 (listed (now (s .entry)) n (now (codes .entry)) (now (glyphs .entry)) k) ⌝ }
+    ensures { λ r. ⌜ r .size ≡ sizeOf12 (listed (now (s .entry)) n (now (codes .entry)) (now (glyphs .entry)) k) ⌝ }
+    ensures { λ r. ⌜ Fronts (now (s .entry)) n (now (codes .entry)) (now (glyphs .entry)) k (r .front) ⌝ }
 {
-    let m = listing::list_record(s, k, n, codes, glyphs, flags, tocodes, toglyphs);
-    size12_of(tocodes, toglyphs, m)
+    let listed = listing::list_front(s, k, n, codes, glyphs, flags, tocodes, toglyphs);
+    let front = listed.front;
+    if 0 < front {
+        let size = size12_of(codes, glyphs, front);
+        return Sized12 { size, front };
+    }
+    let size = size12_of(tocodes, toglyphs, listed.count);
+    Sized12 { size, front }
 }
 
-// Writes the format 4 subtable of the first m pairs.
+// Writes the format 4 subtable of the first m pairs, which `counter` measures.
 fn write4_of(
     out: &mut [u8],
     at: usize,
@@ -87,7 +112,21 @@ fn write4_of(
     format4_writer::write_format4(out, at, language, &codes[..m], &glyphs[..m], counter);
 }
 
-// Writes the format 12 subtable of the first m pairs.
+// Measures and writes the format 4 subtable of the first m pairs.
+fn write4_first(out: &mut [u8], at: usize, language: u32, codes: &[u32], glyphs: &[u16], m: usize)
+    requires { ⌜ Front m (now codes) (now glyphs) ⌝ }
+    requires { ⌜ Columns4 (take m (now codes)) (take m (now glyphs)) ⌝ }
+    requires { ⌜ Fits4 (pairs (take m (now codes)) (take m (now glyphs))) at (length (now out)) ⌝ }
+    ensures { λ _. ⌜ now (out .exit) ≡ sets (now (out .entry)) at (format4 language (pairs (take m (now (codes .entry))) (take m (now (glyphs .entry))))) ⌝ }
+{
+    match size4_of(codes, glyphs, m) {
+        format4::Size::Fits(counter) => { write4_of(out, at, language, codes, glyphs, m, counter) }
+        format4::Size::Empty => {}
+        format4::Size::TooLong => {}
+    }
+}
+
+// Writes the format 12 subtable of the first m pairs, which make so many groups.
 fn write12_of(
     out: &mut [u8],
     at: usize,
@@ -98,14 +137,23 @@ fn write12_of(
     groups: usize,
 )
     requires { ⌜ Front m (now codes) (now glyphs) ⌝ }
-    requires { ⌜ Columns12 (take m (now codes)) (take m (now glyphs)) ⌝ }
     requires { ⌜ Room12 (pairs (take m (now codes)) (take m (now glyphs))) groups at (length (now out)) ⌝ }
     ensures { λ _. ⌜ now (out .exit) ≡ sets (now (out .entry)) at (format12 language (pairs (take m (now (codes .entry))) (take m (now (glyphs .entry))))) ⌝ }
 {
     format12::write_format12(out, at, language, &codes[..m], &glyphs[..m], groups);
 }
 
-// Writes the format 4 subtable that record k makes.
+// Measures and writes the format 12 subtable of the first m pairs.
+fn write12_first(out: &mut [u8], at: usize, language: u32, codes: &[u32], glyphs: &[u16], m: usize)
+    requires { ⌜ Front m (now codes) (now glyphs) ⌝ }
+    requires { ⌜ at + length (format12 language (pairs (take m (now codes)) (take m (now glyphs)))) ≤ length (now out) ⌝ }
+    ensures { λ _. ⌜ now (out .exit) ≡ sets (now (out .entry)) at (format12 language (pairs (take m (now (codes .entry))) (take m (now (glyphs .entry))))) ⌝ }
+{
+    let size = size12_of(codes, glyphs, m);
+    write12_of(out, at, language, codes, glyphs, m, size.groups);
+}
+
+// Writes the format 4 subtable that record k makes. Where its plan notes a front, no pairs are listed.
 pub fn write4(
     out: &mut [u8],
     at: usize,
@@ -118,23 +166,23 @@ pub fn write4(
     flags: &mut [u8],
     tocodes: &mut [u32],
     toglyphs: &mut [u16],
+    front: usize,
 )
     requires { ⌜ Pairs (now s) k n (now codes) (now glyphs) (now flags) (now tocodes) (now toglyphs) ⌝ }
+    requires { ⌜ Fronts (now s) n (now codes) (now glyphs) k front ⌝ }
     requires { ⌜ Leads (now s) k 4 ⌝ }
     requires { ⌜ Fits4 (listed (now s) n (now codes) (now glyphs) k) at (length (now out)) ⌝ }
     ensures { λ _. ⌜ now (out .exit) ≡ sets (now (out .entry)) at (format4 language (listed (now (s .entry)) n (now (codes .entry)) (now (glyphs .entry)) k)) ⌝ }
 {
-    let m = listing::list_record(s, k, n, codes, glyphs, flags, tocodes, toglyphs);
-    match size4_of(tocodes, toglyphs, m) {
-        format4::Size::Fits(counter) => {
-            write4_of(out, at, language, tocodes, toglyphs, m, counter)
-        }
-        format4::Size::Empty => {}
-        format4::Size::TooLong => {}
+    if 0 < front {
+        write4_first(out, at, language, codes, glyphs, front);
+        return;
     }
+    let m = listing::list_record(s, k, n, codes, glyphs, flags, tocodes, toglyphs);
+    write4_first(out, at, language, tocodes, toglyphs, m);
 }
 
-// Writes the format 12 subtable that record k makes.
+// Writes the format 12 subtable that record k makes, likewise.
 pub fn write12(
     out: &mut [u8],
     at: usize,
@@ -147,12 +195,17 @@ pub fn write12(
     flags: &mut [u8],
     tocodes: &mut [u32],
     toglyphs: &mut [u16],
+    front: usize,
 )
     requires { ⌜ Pairs (now s) k n (now codes) (now glyphs) (now flags) (now tocodes) (now toglyphs) ⌝ }
+    requires { ⌜ Fronts (now s) n (now codes) (now glyphs) k front ⌝ }
     requires { ⌜ at + length (format12 language (listed (now s) n (now codes) (now glyphs) k)) ≤ length (now out) ⌝ }
     ensures { λ _. ⌜ now (out .exit) ≡ sets (now (out .entry)) at (format12 language (listed (now (s .entry)) n (now (codes .entry)) (now (glyphs .entry)) k)) ⌝ }
 {
+    if 0 < front {
+        write12_first(out, at, language, codes, glyphs, front);
+        return;
+    }
     let m = listing::list_record(s, k, n, codes, glyphs, flags, tocodes, toglyphs);
-    let size = size12_of(tocodes, toglyphs, m);
-    write12_of(out, at, language, tocodes, toglyphs, m, size.groups);
+    write12_first(out, at, language, tocodes, toglyphs, m);
 }

@@ -2,12 +2,13 @@
 use Prim.Native.Nat.{ℕ, suc, _+_, _-_, _≤_}
 use mathlib.Core.Path.{_≡_}
 use mathlib.Core.List.{List, [], _∷_}
-use mathlib.Core.Bool.{Bool, true, false}
+use mathlib.Core.Bool.{Bool, true, false, not}
 use lib.Dec.{ltb, leb, eqb}
 use lib.ListN.{length, getD, replicate}
 use lib.Seq.{sets}
-use Rattle.laws.specs.Choice.{pick, both, either}
+use Rattle.laws.specs.Choice.{pick, both, either, ifLt}
 use Rattle.laws.specs.Lists.{Rising}
+use Rattle.laws.specs.Search.{first}
 
 -- whether c is one of start..end; none is where start exceeds end
 abbrev pub between : ℕ → ℕ → ℕ → Bool
@@ -64,6 +65,18 @@ unfoldable pub kept : List ℕ → List ℕ → List ℕ
 kept [] vs = []
 kept (f ∷ fs) [] = []
 kept (f ∷ fs) (v ∷ vs) = let r = kept fs vs in pick (eqb f 0) r (v ∷ r)
+
+abbrev pub isClear : List ℕ → ℕ → Bool
+isClear fs i = eqb (getD fs i 0) 0
+
+abbrev pub isSet : List ℕ → ℕ → Bool
+isSet fs i = not (isClear fs i)
+
+-- how many of the first n flags are set, where no flag stands between them that is not; else 0
+unfoldable pub frontOf : List ℕ → ℕ → ℕ
+frontOf fs n =
+    let m = first (isClear fs) n 0 in
+    ifLt (first (isSet fs) (n - m) m) n 0 m
 
 -- what a search by halving gives: the count, and its bound
 pub record Bound (ps : List ℕ) (c r : ℕ) : Type 0 where

@@ -5,7 +5,8 @@ ghost use lib.Dec.{leb, eqb};
 ghost use lib.ListN.{length, replicate};
 ghost use lib.Seq.{sets};
 ghost use Rattle.laws.specs.Lists.{Rising};
-ghost use Rattle.marks.specs.Marks.{between, below, passed, listed, holds, marked, kept, Bound, Halving, AtLeast, Flags, Places};
+ghost use Rattle.laws.specs.Search.{first};
+ghost use Rattle.marks.specs.Marks.{between, below, passed, listed, holds, marked, kept, isClear, isSet, frontOf, Bound, Halving, AtLeast, Flags, Places};
 
 // The bound may be one past the greatest u32.
 fn halve(points: &[u32], c: u64, from: usize, upto: usize) -> usize
@@ -345,4 +346,49 @@ pub fn copy_marked(
         }
     }
     k
+}
+
+// The first of n flags that is not set; n where all are.
+fn first_clear(flags: &[u8], n: usize) -> usize
+    requires { ⌜ n ≤ length (now flags) ⌝ }
+    ensures { λ r. ⌜ r ≡ first (isClear (now (flags .entry))) n 0 ⌝ }
+    ensures { λ r. ⌜ r ≤ n ⌝ }
+{
+    let mut i = 0;
+    while i < n {
+        if flags[i] == 0 {
+            return i;
+        }
+        i += 1;
+    }
+    i
+}
+
+// The first flag from low on, up to n, that is set; n where none is.
+fn first_set(flags: &[u8], low: usize, n: usize) -> usize
+    requires { ⌜ low ≤ n ⌝ }
+    requires { ⌜ n ≤ length (now flags) ⌝ }
+    ensures { λ r. ⌜ r ≡ first (isSet (now (flags .entry))) (n - low) low ⌝ }
+{
+    let mut i = low;
+    while i < n {
+        if flags[i] != 0 {
+            return i;
+        }
+        i += 1;
+    }
+    i
+}
+
+// How many of the first n flags are set, where those are the first ones; else 0. What is kept by such flags need not be copied.
+pub fn front(flags: &[u8], n: usize) -> usize
+    requires { ⌜ n ≤ length (now flags) ⌝ }
+    ensures { λ r. ⌜ r ≡ frontOf (now (flags .entry)) n ⌝ }
+    ensures { λ r. ⌜ r ≤ n ⌝ }
+{
+    let m = first_clear(flags, n);
+    if first_set(flags, m, n) < n {
+        return 0;
+    }
+    m
 }

@@ -3,14 +3,11 @@ use borrow.Author.Needs.{needs}
 use Rattle.listing.proofs.list_record.Statement.{statement}
 use Rattle.listing.proofs.list_record.Tie as tie
 
-encoding-record-requires : tie.Need-encoding-record-requires
-encoding-record-requires c κs = search needs
+collect-record-requires : tie.Need-collect-record-requires
+collect-record-requires c κs = search needs
 
-kind-at-requires : tie.Need-kind-at-requires
-kind-at-requires c κs = search needs
-
-list-pairs-requires : tie.Need-list-pairs-requires
-list-pairs-requires c κs = search needs
+copy-marked-requires : tie.Need-copy-marked-requires
+copy-marked-requires c κs = search needs
 
 same-length : tie.Need-same-length
 same-length c = search needs
@@ -28,9 +25,8 @@ pub list-record-spec : {M : Type 1} → statement M
 list-record-spec =
     tie.close
     (tie.spec
-    encoding-record-requires
-    kind-at-requires
-    list-pairs-requires
+    collect-record-requires
+    copy-marked-requires
     same-length
     same-length-2
     same-length-3

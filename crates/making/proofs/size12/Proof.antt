@@ -3,11 +3,11 @@ use borrow.Author.Needs.{needs}
 use Rattle.making.proofs.size12.Statement.{statement}
 use Rattle.making.proofs.size12.Tie as tie
 
-list-record-requires : tie.Need-list-record-requires
-list-record-requires c κs = search needs
+list-front-requires : tie.Need-list-front-requires
+list-front-requires c κs = search needs
 
 size12-of-requires : tie.Need-size12-of-requires
-size12-of-requires c κs = (search made, search made)
+size12-of-requires c κs = search made
 
 same-length : tie.Need-same-length
 same-length c = search needs
@@ -19,15 +19,35 @@ same-length-3 : tie.Need-same-length-3
 same-length-3 c = search needs
 
 returns : tie.Need-returns
-returns c = search made
+returns c = (search made, search made)
+
+size12-of-requires-2 : tie.Need-size12-of-requires-2
+size12-of-requires-2 c κs = search made
+
+same-length-4 : tie.Need-same-length-4
+same-length-4 c = search needs
+
+same-length-5 : tie.Need-same-length-5
+same-length-5 c = search needs
+
+same-length-6 : tie.Need-same-length-6
+same-length-6 c = search needs
+
+returns-2 : tie.Need-returns-2
+returns-2 c = (search made, search made)
 
 pub size12-spec : {M : Type 1} → statement M
 size12-spec =
     tie.close
     (tie.spec
-    list-record-requires
+    list-front-requires
     size12-of-requires
     same-length
     same-length-2
     same-length-3
-    returns)
+    returns
+    size12-of-requires-2
+    same-length-4
+    same-length-5
+    same-length-6
+    returns-2)

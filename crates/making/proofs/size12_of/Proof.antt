@@ -10,7 +10,7 @@ slice-aggregate-format12-size-2 : tie.Need-slice-aggregate-format12-size-2
 slice-aggregate-format12-size-2 c = search fronts
 
 format12-size-requires : tie.Need-format12-size-requires
-format12-size-requires c κs = search needs
+format12-size-requires c κs = search fronts
 
 returns : tie.Need-returns
 returns c = search needs

@@ -1,16 +1,13 @@
-use Rattle.making.proofs.MakingLaws.{made, asks4}
+use Rattle.making.proofs.MakingLaws.{made, known}
 use borrow.Author.Needs.{needs}
 use Rattle.making.proofs.size4.Statement.{statement}
 use Rattle.making.proofs.size4.Tie as tie
 
-list-record-requires : tie.Need-list-record-requires
-list-record-requires c κs = search needs
+list-front-requires : tie.Need-list-front-requires
+list-front-requires c κs = search needs
 
 size4-of-requires : tie.Need-size4-of-requires
-size4-of-requires c κs =
-    let e = c .before .before .before .before .before .before .before .before .list-record .ensures in
-    let p = c .before .before .before .before .before .before .before .before .before .before .before .before .before .before .before .before .before .before .pre in
-    (search made, asks4 _ _ _ _ _ _ _ _ _ _ _ (p .0) (e .0) (e .1 .0) (e .1 .1) (λ i. c .before .before .before .before .before .before .before .before .before .before .before .before .before .before .before .before .before .shared-slice-known .given i .fits) (p .1))
+size4-of-requires c κs = (search made, search (made, known (c .before .before .before .before .before .before .before .before .before .before .before .before .before .before .before .before .before .pre .0) (λ i. c .before .before .before .before .before .before .before .before .before .before .before .before .before .before .before .before .shared-slice-known .given i .fits)))
 
 same-length : tie.Need-same-length
 same-length c = search needs
@@ -22,15 +19,35 @@ same-length-3 : tie.Need-same-length-3
 same-length-3 c = search needs
 
 returns : tie.Need-returns
-returns c = search made
+returns c = (search made, search made)
+
+size4-of-requires-2 : tie.Need-size4-of-requires-2
+size4-of-requires-2 c κs = (search made, search (made, known (c .before .before .before .before .before .before .before .before .before .before .before .before .before .before .before .before .before .before .before .pre .0) (λ i. c .before .before .before .before .before .before .before .before .before .before .before .before .before .before .before .before .before .before .shared-slice-known .given i .fits)))
+
+same-length-4 : tie.Need-same-length-4
+same-length-4 c = search needs
+
+same-length-5 : tie.Need-same-length-5
+same-length-5 c = search needs
+
+same-length-6 : tie.Need-same-length-6
+same-length-6 c = search needs
+
+returns-2 : tie.Need-returns-2
+returns-2 c = (search made, search made)
 
 pub size4-spec : {M : Type 1} → statement M
 size4-spec =
     tie.close
     (tie.spec
-    list-record-requires
+    list-front-requires
     size4-of-requires
     same-length
     same-length-2
     same-length-3
-    returns)
+    returns
+    size4-of-requires-2
+    same-length-4
+    same-length-5
+    same-length-6
+    returns-2)

@@ -10,7 +10,7 @@ slice-aggregate-write-format12-2 : tie.Need-slice-aggregate-write-format12-2
 slice-aggregate-write-format12-2 c = search fronts
 
 write-format12-requires : tie.Need-write-format12-requires
-write-format12-requires c κs = search needs
+write-format12-requires c κs = (search fronts, search needs)
 
 same-length : tie.Need-same-length
 same-length c = search needs
