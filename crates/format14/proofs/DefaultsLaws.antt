@@ -26,12 +26,12 @@ use Rattle.uvs.specs.Tables.{counts, countsDefault}
 use Rattle.uvs.specs.Default.{coveredBy, newDefault}
 use Rattle.uvs.proofs.ReadLaws.{each-row, each-select}
 use Rattle.default_uvs.proofs.CoversLaws.{none-covers, stands-covers, bytes-cover}
-use Rattle.selector_tables.specs.Selectors.{Given, selectorRecords, varSelector, defaultOffset, keepsSelector, defaultTable, nonDefaultTable}
+use Rattle.selector_tables.specs.Selectors.{Given, selectorRecords, varSelector, defaultOffset, keepsSelector, defaultTable, nonDefaultTable, keptRecords, there, one}
 use Rattle.selector_tables.proofs.ShapeLaws.{default-shape}
-use Rattle.format14.specs.Format14.{Row, keptRecords, rowOf, rowsOf, rows, used, there, one, tables, offsetOf, lengthOf, format14}
+use Rattle.format14.specs.Format14.{Row, rowOf, rowsOf, rows, used, tables, offsetOf, lengthOf, format14}
 use Rattle.format14.specs.Variants.{recordCovers, defaults}
 use Rattle.format14.proofs.OffsetsLaws.{offset-leads}
-use Rattle.format14.proofs.SlotsLaws.{there-some, there-none, nil-eq}
+use Rattle.placing.proofs.SlotsLaws.{there-some, there-none, nil-eq}
 use Rattle.format14.proofs.VariantsLaws.{among-right, take-stands, read-count, row-here, read-selector, apart}
 use Rattle.format14.proofs.WholeLaws.{row-size, length-format14}
 

@@ -13,7 +13,7 @@ use Rattle.laws.proofs.SelectLaws.{length-flat}
 use Rattle.number.specs.BigEndian.{enc}
 use Rattle.number.proofs.BigEndianLaws.{length-enc}
 use Rattle.format14.specs.Format14.{Row, tables, written, tablesStart, offsetOf, lengthOf, rowBytes, header, format14}
-use Rattle.format14.proofs.SlotsLaws.{there-some}
+use Rattle.placing.proofs.SlotsLaws.{there-some}
 use Rattle.format14.proofs.WholeLaws.{row-size}
 
 drop-past : (a b : List ℕ) (n k : ℕ) → length a ≡ n → drop (n + k) (a ++ b) ≡ drop k b
