@@ -23,7 +23,7 @@ use Rattle.selector_tables.specs.Selectors.{Given, given, refused8}
 use Rattle.selector_tables.specs.ByNumber.{slot, Readable}
 use Rattle.format14.specs.declared.Outcome.{Outcome}
 use Rattle.format14.specs.declared.Outcome.the-variants.{Refused8, Empty, Length}
-use Rattle.format14.specs.Format14.{Row, rows, lengthOf, rowBytes, format14, offsetOf, sizeOf, outcome, lengthIn}
+use Rattle.format14.specs.Format14.{Row, rows, written, lengthOf, rowBytes, header, format14, offsetOf, sizeOf, outcome, lengthIn}
 use Rattle.placing.specs.Ends.{Written, Ends, Total}
 use Rattle.format14.specs.Parts.{outcomeFrom, endsAt}
 use Rattle.format14.proofs.RowsLaws.{written-rows, length-rows, flat-rows}
@@ -32,6 +32,9 @@ use Rattle.format14.proofs.ShortLaws.{Modest, rows-short}
 length-header : (a b : ℕ) → length (header14 a b) ≡ 10
 unfolding header14
 length-header a b = rw (length-append, length-append, length-enc 2 14, length-enc 4 a, length-enc 4 b)
+
+pub length-head : (rs : List Row) → length (header rs) ≡ 10
+length-head rs = rw (length-append, length-append, length-enc 2 14, length-enc 4 (lengthOf rs), length-enc 4 (length rs))
 
 size-none : (rs : List Row) → length rs ≡ 0 → sizeOf rs ≡ Empty
 unfolding sizeOf
@@ -145,13 +148,9 @@ pub length-format14 : (rs : List Row) → length (format14 rs) ≡ lengthOf rs
 unfolding format14
 length-format14 rs =
     rw (
-      length-append,
-      length-append,
-      length-append,
-      length-append,
-      length-enc 2 14,
-      length-enc 4 (lengthOf rs),
-      length-enc 4 (length rs),
+      length-append (header rs) (flat (rowBytes rs) rs ++ concat (written rs)),
+      length-head rs,
+      length-append (flat (rowBytes rs) rs) (concat (written rs)),
       length-flat (rowBytes rs) 11 (row-size rs) rs,
     ) (omega arith)
 
