@@ -1,11 +1,10 @@
 -- Read back from the bytes of the new subtable, wherever it stands, a code point is covered by the default tables of a kept selector exactly where it is
 -- kept and the source's subtable covers it with that selector.
-use Prim.Native.Nat.{ℕ, zero, suc, _+_, _*_, _^_, _<_, _≤_}
+use Prim.Native.Nat.{ℕ, zero, suc, _+_, _*_, _^_, _<_}
 use mathlib.Core.Path.{_≡_, refl, sym, ap, _∙_}
 use mathlib.Core.List.{List, [], _∷_, _++_, append-assoc, map}
 use mathlib.Core.Bool.{Bool, true, false}
 use native.Mathlib.Omega.{arith}
-use borrow.Author.Tests.{lt-ltb, le-leb}
 use lib.Dec.{eqb}
 use lib.ListN.{length, getD, length-append}
 use Rattle.laws.specs.Choice.{both, either}
@@ -22,18 +21,18 @@ use Rattle.marks.specs.Marks.{holds}
 use Rattle.number.specs.BigEndian.{be, enc, Bytes}
 use Rattle.number.proofs.BigEndianLaws.{be-lt, be-front, be-back, be-enc-fits, length-enc}
 use Rattle.number.proofs.StandsLaws.{be-stands}
-use Rattle.uvs.specs.Tables.{counts, countsDefault}
+use Rattle.uvs.specs.Tables.{countsDefault}
 use Rattle.uvs.specs.Default.{coveredBy, newDefault}
 use Rattle.uvs.proofs.ReadLaws.{each-row, each-select}
 use Rattle.default_uvs.proofs.CoversLaws.{none-covers, stands-covers, bytes-cover}
-use Rattle.selector_tables.specs.Selectors.{Given, selectorRecords, varSelector, defaultOffset, keepsSelector, defaultTable, nonDefaultTable}
+use Rattle.selector_tables.specs.Selectors.{Given, selectorRecords, varSelector, defaultOffset, keepsSelector, defaultTable, nonDefaultTable, keptRecords, there, one}
 use Rattle.selector_tables.proofs.ShapeLaws.{default-shape}
-use Rattle.format14.specs.Format14.{Row, keptRecords, rowOf, rowsOf, rows, used, there, one, tables, offsetOf, lengthOf, format14}
+use Rattle.format14.specs.Format14.{Row, rowOf, rowsOf, rows, used, tables, offsetOf, lengthOf, format14}
 use Rattle.format14.specs.Variants.{recordCovers, defaults}
-use Rattle.format14.proofs.OffsetsLaws.{offset-leads}
-use Rattle.format14.proofs.SlotsLaws.{there-some, there-none, nil-eq}
-use Rattle.format14.proofs.VariantsLaws.{among-right, take-stands, read-count, row-here, read-selector, apart}
-use Rattle.format14.proofs.WholeLaws.{row-size, length-format14}
+use Rattle.format14.proofs.OffsetsLaws.{leads, offset-none, offset-fits, counts-here, counts-none}
+use Rattle.placing.proofs.SlotsLaws.{there-some, nil-eq}
+use Rattle.format14.proofs.VariantsLaws.{among-right, read-count, row-here, read-selector, apart}
+use Rattle.format14.proofs.WholeLaws.{row-size}
 
 -- a row's own answers, asked by its place
 any-place : (f q : ℕ → Bool) (w p : Row → Bool) (front back : List Row)
@@ -58,15 +57,6 @@ pub record Plain (r : Row) : Type 0 where
   pub shape : 0 < length (r .defaultUVS) → length (r .defaultUVS) ≡ 4 + 4 * be 4 (r .defaultUVS) 0
   pub reads : (ys : List ℕ) (q : ℕ) → Stands ys q (r .defaultUVS) → 0 < length (r .defaultUVS) → (c : ℕ) → coveredBy ys q c ≡ coveredBy (r .defaultUVS) 0 c
 
--- a table whose n ranges end inside counts
-counts-there : (ys : List ℕ) (at len o n : ℕ) → be 4 ys (at + o) ≡ n → 10 ≤ o → o + 4 + 4 * n ≤ len → countsDefault ys at len o ≡ true
-unfolding counts
-counts-there ys at len o n c h l = rw (lt-ltb 0 o (omega arith), le-leb (o + 4) len (omega arith), c, le-leb (o + 4 + 4 * n) len l)
-
-counts-none : (ys : List ℕ) (at len : ℕ) → countsDefault ys at len 0 ≡ false
-unfolding counts
-counts-none ys at len = refl
-
 module _ (rs : List Row) (ys : List ℕ) (at : ℕ) (st : Stands ys at (format14 rs)) (small : lengthOf rs < 256 ^ 4) where
   module _ (us : List Row) (r : Row) (vs : List Row) (e : rs ≡ us ++ (r ∷ vs)) where
     abbrev t : List ℕ
@@ -80,23 +70,6 @@ module _ (rs : List Row) (ys : List ℕ) (at : ℕ) (st : Stands ys at (format14
         on [] = rw (there-some t z) (among-here t t (one (r .nonDefaultUVS) ++ tables vs) (eq-refl t))
         on (u ∷ us) = among-right t (one (u .defaultUVS)) (one (u .nonDefaultUVS) ++ tables (us ++ (r ∷ vs))) (among-right t (one (u .nonDefaultUVS)) (tables (us ++ (r ∷ vs))) (on us))
 
-    leads : 0 < length t → Stands (format14 rs) (offsetOf rs t) t
-    leads z = take-stands (format14 rs) (offsetOf rs t) t (offset-leads rs t (among-row z) z) z
-
-    offset-some : 0 < length t → 10 ≤ offsetOf rs t
-    unfolding offsetOf
-    offset-some z = rw (there-some t z) (omega arith)
-
-    offset-none : length t ≡ 0 → offsetOf rs t ≡ 0
-    unfolding offsetOf
-    offset-none z = rw (there-none t z)
-
-    offset-fits : offsetOf rs t < 256 ^ 4
-    offset-fits =
-        by-leb (offsetOf rs t < 256 ^ 4) 1 (length t)
-        (λ h. omega (arith, leads h .inside, length-format14 rs))
-        (λ h. rw (offset-none (omega arith)) (omega arith))
-
     read-offset : be 4 ys (at + 10 + 11 * length us + 3) ≡ offsetOf rs t
     read-offset =
         let a = enc 3 (r .selector) in
@@ -107,7 +80,7 @@ module _ (rs : List Row) (ys : List ℕ) (at : ℕ) (st : Stands ys at (format14
         be-stands (row-here rs ys at st small us r vs e) 4 3 (at + 10 + 11 * length us + 3) (omega arith) (rw (row-size rs r) (omega arith))
         ∙ rw three at (be-back 4 a (b ++ d) 0)
         ∙ be-front 4 b d 0 (omega (arith, four))
-        ∙ be-enc-fits 4 (offsetOf rs t) offset-fits
+        ∙ be-enc-fits 4 (offsetOf rs t) (offset-fits rs t among-row small)
 
     read-covers : Plain r → (c : ℕ) → recordCovers ys at (lengthOf rs) c (length us) ≡ coveredBy t 0 c
     unfolding recordCovers
@@ -115,14 +88,11 @@ module _ (rs : List Row) (ys : List ℕ) (at : ℕ) (st : Stands ys at (format14
         let o = offsetOf rs t in
         rw read-offset (by-leb (both (countsDefault ys at (lengthOf rs) o) (coveredBy ys (at + o) c) ≡ coveredBy t 0 c) 1 (length t)
         (λ h.
-        let inside = leads h in
-        let here = stands-in at o st inside in
-        let shape = g .shape h in
-        let count : be 4 ys (at + o) ≡ be 4 t 0 = be-stands here 4 0 (at + o) (omega arith) (omega (arith, shape)) in
-        rw (counts-there ys at (lengthOf rs) o (be 4 t 0) count (offset-some h) (omega (arith, inside .inside, length-format14 rs, shape))) (g .reads ys (at + o) here h c))
+        let here = stands-in at o st (leads rs t among-row h) in
+        rw (counts-here rs t among-row ys at st 4 h (g .shape h)) (g .reads ys (at + o) here h c))
         (λ h.
         let none : length t ≡ 0 = omega arith in
-        rw (offset-none none, counts-none ys at (lengthOf rs), nil-eq t none) (sym (none-covers c))))
+        rw (offset-none rs t none, counts-none 4 ys at (lengthOf rs), nil-eq t none) (sym (none-covers c))))
 
   rows-read : Each Plain rs → (v c : ℕ) → defaults ys at (lengthOf rs) v c ≡ anyOf (λ r. coveredBy (r .defaultUVS) 0 c) (select (λ r. eqb (r .selector) v) rs)
   rows-read plain v c =

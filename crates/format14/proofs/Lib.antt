@@ -1,7 +1,6 @@
-pub mod SlotsLaws
-pub mod PlacingLaws
 pub mod RowsLaws
-pub mod LoopLaws
+pub mod ShortLaws
+pub mod FillingLaws
 pub mod WholeLaws
 pub mod Format14Cases
 pub mod OffsetsLaws

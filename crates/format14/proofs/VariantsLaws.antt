@@ -1,14 +1,13 @@
 -- Read back from the bytes of the new subtable, wherever it stands, a code point with a kept selector is given the new numbers of exactly those glyphs
 -- that the source's subtable gave it and that stay, in order.
-use Prim.Native.Nat.{ℕ, zero, suc, _+_, _*_, _^_, _<_, _≤_}
+use Prim.Native.Nat.{ℕ, zero, suc, _+_, _*_, _^_, _<_}
 use mathlib.Core.Path.{_≡_, refl, sym, ap, _∙_}
 use mathlib.Core.List.{List, [], _∷_, _++_, append-assoc, map, map-append}
 use mathlib.Core.Bool.{Bool, true, false}
 use native.Mathlib.Omega.{arith}
-use borrow.Author.Tests.{eqb-true, lt-ltb, le-leb}
+use borrow.Author.Tests.{eqb-true}
 use lib.Dec.{eqb}
-use lib.ListN.{length, getD, take, drop, length-append, length-drop}
-use lib.Seq.{take-all, getD-take, getD-drop}
+use lib.ListN.{length, length-append}
 use Rattle.laws.specs.Choice.{pick, either}
 use Rattle.laws.specs.Linked.{Each}
 use Rattle.laws.specs.Pieces.{concat}
@@ -25,18 +24,18 @@ use Rattle.marks.specs.Marks.{holds}
 use Rattle.number.specs.BigEndian.{be, enc, Bytes}
 use Rattle.number.proofs.BigEndianLaws.{be-lt, be-front, be-back, be-enc-fits, length-enc}
 use Rattle.number.proofs.StandsLaws.{be-stands}
-use Rattle.uvs.specs.Tables.{counts, countsNonDefault}
+use Rattle.uvs.specs.Tables.{countsNonDefault}
 use Rattle.uvs.specs.NonDefault.{mappings, newNonDefault}
 use Rattle.uvs.proofs.ReadLaws.{each-row, each-select}
 use Rattle.non_default_uvs.specs.Gives.{glyphsFor, stayingGlyphs, newGlyph, Glyphs}
 use Rattle.non_default_uvs.proofs.GivesLaws.{none-read, stands-mappings, new-mappings, new-gives, all-stay}
-use Rattle.selector_tables.specs.Selectors.{Given, selectorRecords, varSelector, nonDefaultOffset, keepsSelector, defaultTable, nonDefaultTable}
+use Rattle.selector_tables.specs.Selectors.{Given, selectorRecords, varSelector, nonDefaultOffset, keepsSelector, defaultTable, nonDefaultTable, keptRecords, there, one}
 use Rattle.selector_tables.proofs.ShapeLaws.{non-default-shape}
-use Rattle.format14.specs.Format14.{Row, keptRecords, rowOf, rowsOf, rows, used, there, one, tables, written, offsetOf, rowBytes, lengthOf, header, format14}
+use Rattle.format14.specs.Format14.{Row, rowOf, rowsOf, rows, used, tables, written, offsetOf, rowBytes, lengthOf, header, format14}
 use Rattle.format14.specs.Variants.{recordMappings, variants}
-use Rattle.format14.proofs.OffsetsLaws.{offset-leads}
-use Rattle.format14.proofs.SlotsLaws.{there-some, there-none, nil-eq}
-use Rattle.format14.proofs.WholeLaws.{row-size, length-format14}
+use Rattle.format14.proofs.OffsetsLaws.{leads, offset-none, offset-fits, counts-here, counts-none}
+use Rattle.placing.proofs.SlotsLaws.{there-some, nil-eq}
+use Rattle.format14.proofs.WholeLaws.{length-head, row-size}
 
 -- ---- lists
 
@@ -48,16 +47,6 @@ flat-append w (x ∷ xs) ys = rw (flat-append w xs ys) (sym (append-assoc (w x) 
 pub among-right : (t : List ℕ) (us vs : List (List ℕ)) → among t vs ≡ true → among t (us ++ vs) ≡ true
 among-right t [] vs e = e
 among-right t (u ∷ us) vs e = among-there t u (us ++ vs) (among-right t us vs e)
-
-pub take-stands : (xs : List ℕ) (at : ℕ) (t : List ℕ) → take (length t) (drop at xs) ≡ t → 0 < length t → Stands xs at t
-take-stands xs at t e z = record {
-  inside = by-leb (at + length t ≤ length xs) (length t) (length (drop at xs))
-      (λ h. omega (arith, rw length-drop at h))
-      (λ h.
-      let all = sym (take-all (length t) (drop at xs) (omega arith)) ∙ e in
-      absurd (omega (arith, h, ap length all)));
-  same = λ k h. sym (getD-drop at xs k 0) ∙ sym (getD-take (length t) (drop at xs) k 0 h) ∙ ap (λ l. getD l k 0) e;
-}
 
 -- a row's own answers, read by its place
 by-place : (f : ℕ → List ℕ) (q : ℕ → Bool) (w : Row → List ℕ) (p : Row → Bool) (front back : List Row)
@@ -82,27 +71,8 @@ pub record Good (r : Row) : Type 0 where
   pub shape : 0 < length (r .nonDefaultUVS) → length (r .nonDefaultUVS) ≡ 4 + 5 * be 4 (r .nonDefaultUVS) 0
   pub reads : (ys : List ℕ) (q : ℕ) → Stands ys q (r .nonDefaultUVS) → 0 < length (r .nonDefaultUVS) → mappings ys q ≡ mappings (r .nonDefaultUVS) 0
 
-length-header : (rs : List Row) → length (header rs) ≡ 10
-length-header rs =
-    rw (
-      length-append (enc 2 14) (enc 4 (lengthOf rs) ++ enc 4 (length rs)),
-      length-append (enc 4 (lengthOf rs)) (enc 4 (length rs)),
-      length-enc 2 14,
-      length-enc 4 (lengthOf rs),
-      length-enc 4 (length rs),
-    )
-
 parts : (a b c d e : List ℕ) → a ++ ((b ++ (c ++ d)) ++ e) ≡ (a ++ b) ++ (c ++ (d ++ e))
 parts a b c d e = simp append-assoc
-
--- a table whose n mappings end inside counts
-counts-there : (ys : List ℕ) (at len o n : ℕ) → be 4 ys (at + o) ≡ n → 10 ≤ o → o + 4 + 5 * n ≤ len → countsNonDefault ys at len o ≡ true
-unfolding counts
-counts-there ys at len o n c h l = rw (lt-ltb 0 o (omega arith), le-leb (o + 4) len (omega arith), c, le-leb (o + 4 + 5 * n) len l)
-
-counts-none : (ys : List ℕ) (at len : ℕ) → countsNonDefault ys at len 0 ≡ false
-unfolding counts
-counts-none ys at len = refl
 
 module _ (rs : List Row) (ys : List ℕ) (at : ℕ) (st : Stands ys at (format14 rs)) (small : lengthOf rs < 256 ^ 4) where
   pub read-count : be 4 ys (at + 6) ≡ length rs
@@ -121,7 +91,7 @@ module _ (rs : List Row) (ys : List ℕ) (at : ℕ) (st : Stands ys at (format14
     row-stands =
         let w = rowBytes rs in
         let rest : flat w rs ≡ flat w us ++ (w r ++ flat w vs) = ap (flat w) e ∙ flat-append w us (r ∷ vs) in
-        let place : length (header rs ++ flat w us) ≡ 10 + 11 * length us = rw (length-append, length-header rs, length-flat w 11 (row-size rs) us) in
+        let place : length (header rs ++ flat w us) ≡ 10 + 11 * length us = rw (length-append, length-head rs, length-flat w 11 (row-size rs) us) in
         let whole : format14 rs ≡ (header rs ++ flat w us) ++ (w r ++ (flat w vs ++ concat (written rs))) = ap (λ l. header rs ++ (l ++ concat (written rs))) rest ∙ parts (header rs) (flat w us) (w r) (flat w vs) (concat (written rs)) in
         rw whole (rw place at (stands-append (header rs ++ flat w us) (w r) (flat w vs ++ concat (written rs))))
 
@@ -142,23 +112,6 @@ module _ (rs : List Row) (ys : List ℕ) (at : ℕ) (st : Stands ys at (format14
         on [] = among-right t (one (r .defaultUVS)) (one t ++ tables vs) last
         on (u ∷ us) = among-right t (one (u .defaultUVS)) (one (u .nonDefaultUVS) ++ tables (us ++ (r ∷ vs))) (among-right t (one (u .nonDefaultUVS)) (tables (us ++ (r ∷ vs))) (on us))
 
-    leads : 0 < length t → Stands (format14 rs) (offsetOf rs t) t
-    leads z = take-stands (format14 rs) (offsetOf rs t) t (offset-leads rs t (among-row z) z) z
-
-    offset-some : 0 < length t → 10 ≤ offsetOf rs t
-    unfolding offsetOf
-    offset-some z = rw (there-some t z) (omega arith)
-
-    offset-none : length t ≡ 0 → offsetOf rs t ≡ 0
-    unfolding offsetOf
-    offset-none z = rw (there-none t z)
-
-    offset-fits : offsetOf rs t < 256 ^ 4
-    offset-fits =
-        by-leb (offsetOf rs t < 256 ^ 4) 1 (length t)
-        (λ h. omega (arith, leads h .inside, length-format14 rs))
-        (λ h. rw (offset-none (omega arith)) (omega arith))
-
     pub read-selector : r .selector < 256 ^ 3 → be 3 ys (at + 10 + 11 * length us) ≡ r .selector
     read-selector f =
         let three = length-enc 3 (r .selector) in
@@ -177,7 +130,7 @@ module _ (rs : List Row) (ys : List ℕ) (at : ℕ) (st : Stands ys at (format14
         be-stands row-here 4 7 (at + 10 + 11 * length us + 7) (omega arith) (rw (row-size rs r) (omega arith))
         ∙ rw three at (be-back 4 a (b ++ d) 4)
         ∙ rw four at (be-back 4 b d 0)
-        ∙ be-enc-fits 4 (offsetOf rs t) offset-fits
+        ∙ be-enc-fits 4 (offsetOf rs t) (offset-fits rs t among-row small)
 
     read-mappings : Good r → recordMappings ys at (lengthOf rs) (length us) ≡ mappings t 0
     unfolding recordMappings
@@ -185,14 +138,11 @@ module _ (rs : List Row) (ys : List ℕ) (at : ℕ) (st : Stands ys at (format14
         let o = offsetOf rs t in
         rw read-offset (by-leb (pick (countsNonDefault ys at (lengthOf rs) o) (mappings ys (at + o)) [] ≡ mappings t 0) 1 (length t)
         (λ h.
-        let inside = leads h in
-        let here = stands-in at o st inside in
-        let shape = g .shape h in
-        let count : be 4 ys (at + o) ≡ be 4 t 0 = be-stands here 4 0 (at + o) (omega arith) (omega (arith, shape)) in
-        rw (counts-there ys at (lengthOf rs) o (be 4 t 0) count (offset-some h) (omega (arith, inside .inside, length-format14 rs, shape))) (g .reads ys (at + o) here h))
+        let here = stands-in at o st (leads rs t among-row h) in
+        rw (counts-here rs t among-row ys at st 5 h (g .shape h)) (g .reads ys (at + o) here h))
         (λ h.
         let none : length t ≡ 0 = omega arith in
-        rw (offset-none none, counts-none ys at (lengthOf rs), nil-eq t none) (sym (none-read 0))))
+        rw (offset-none rs t none, counts-none 5 ys at (lengthOf rs), nil-eq t none) (sym (none-read 0))))
 
   -- what the subtable gives, row by row
   rows-read : Each Good rs → (v c : ℕ) → variants ys at (lengthOf rs) v c ≡ flat (λ r. glyphsFor (mappings (r .nonDefaultUVS) 0) c) (select (λ r. eqb (r .selector) v) rs)

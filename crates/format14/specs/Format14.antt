@@ -1,22 +1,18 @@
--- The new subtable of format 14 (docs/01-rules.md, "Format 14"), and refusal 8.
+-- The new subtable of format 14 (docs/01-rules.md, "Format 14"), and what becomes of it.
 use Prim.Native.Nat.{ℕ, _+_, _*_}
 use mathlib.Core.List.{List, [], _∷_, _++_, map}
-use mathlib.Core.Bool.{Bool, true, false}
+use mathlib.Core.Bool.{Bool}
 use lib.ListN.{length}
 use Rattle.laws.specs.Choice.{pick, either}
 use Rattle.laws.specs.Pieces.{concat}
-use Rattle.laws.specs.Select.{each, select, anyOf, flat}
+use Rattle.laws.specs.Select.{select, flat}
 use Rattle.laws.specs.Lasts.{lasts, before}
 use Rattle.number.specs.BigEndian.{enc}
-use Rattle.selector_tables.specs.Selectors.{Given, selectorRecords, varSelector, keepsSelector, defaultTable, nonDefaultTable, badRecord}
+use Rattle.selector_tables.specs.Selectors.{Given, selectorRecords, varSelector, keptRecords, defaultTable, nonDefaultTable, there, one, refused8}
 use Rattle.format14.specs.declared.Outcome.{Outcome}
 use Rattle.format14.specs.declared.Outcome.the-variants.{Refused8, Empty, Length}
 
--- ---- which selector records stay
-
--- the numbers of the records whose selector is kept, in order, of n records from k on
-abbrev pub keptRecords : Given → ℕ → ℕ → List ℕ
-keptRecords g n k = select (keepsSelector g) (each (λ i. i) n k)
+-- ---- the rows that stay
 
 -- a selector, its new default table and its new non-default table
 pub record Row : Type 0 where
@@ -28,10 +24,6 @@ abbrev pub rowOf : Given → ℕ → Row
 rowOf g k = record { selector = varSelector g k; defaultUVS = defaultTable g k; nonDefaultUVS = nonDefaultTable g k }
 
 -- a record with neither table is left out
-abbrev pub there : List ℕ → Bool
-there [] = false
-there (b ∷ bs) = true
-
 unfoldable pub used : Row → Bool
 used r = either (there (r .defaultUVS)) (there (r .nonDefaultUVS))
 
@@ -44,9 +36,6 @@ rows g = rowsOf g (selectorRecords g) 0
 -- ---- the subtable of such rows
 
 -- the tables in record order, default first, without the missing ones
-abbrev pub one : List ℕ → List (List ℕ)
-one t = pick (there t) (t ∷ []) []
-
 unfoldable pub tables : List Row → List (List ℕ)
 tables [] = []
 tables (r ∷ rs) = one (r .defaultUVS) ++ (one (r .nonDefaultUVS) ++ tables rs)
@@ -77,10 +66,6 @@ unfoldable pub format14 : List Row → List ℕ
 format14 rs = header rs ++ (flat (rowBytes rs) rs ++ concat (written rs))
 
 -- ---- the outcome
-
--- refusal 8: a kept selector record has a mapping to be kept that names a missing glyph
-abbrev pub refused8 : Given → Bool
-refused8 g = anyOf (badRecord g) (keptRecords g (selectorRecords g) 0)
 
 -- no row left is "empty"
 unfoldable pub sizeOf : List Row → Outcome

@@ -1,3 +1,3 @@
 pub mod Format14
-pub mod Ends
+pub mod Parts
 pub mod Variants

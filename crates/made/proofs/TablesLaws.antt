@@ -27,13 +27,14 @@ use Rattle.format12_lookup.proofs.BytesLaws.{groups-few}
 use Rattle.format12_lookup.proofs.Format12KindLaws.{length-is, format12-kind-stands}
 use Rattle.format12_lookup.proofs.Format12FindsLaws.{format12-gives-stands, format12-finds-stands}
 use Rattle.format14.specs.Format14.{rows}
+use Rattle.format14.proofs.ShortLaws.{Modest, rows-few, rows-short}
 use Rattle.format14.proofs.WholeLaws.{length-format14}
 use Rattle.plan.specs.declared.Outcome.the-variants.{Made}
 use Rattle.plan.specs.Plan.{listedOf, givenOf, tableAs, tableOf, fresh}
 use Rattle.made.specs.Lent.{Lent}
 use Rattle.made.proofs.ListedLaws.{above-listed, fits-listed, listed-glyph}
 use Rattle.made.proofs.MadeLaws.{made-length, by-format, made-written4, language12-fits, table-is}
-use Rattle.made.proofs.Format14Laws.{Modest, rows-few, rows-short, format14-kind-stands}
+use Rattle.made.proofs.Format14Laws.{format14-kind-stands}
 
 module _ {j : Job} (l : Lent j) (k : ℕ) where
   -- a format 14 record's source and lists keep to the limits

@@ -4,11 +4,12 @@ use mathlib.Core.Path.{_≡_}
 use mathlib.Core.List.{List, []}
 use mathlib.Core.Bool.{Bool, false}
 use lib.Dec.{eqb}
-use lib.ListN.{length}
+use lib.ListN.{length, getD}
 use Rattle.laws.specs.Choice.{pick, both}
 use Rattle.laws.specs.Lists.{Rising}
 use Rattle.marks.specs.Marks.{holds}
 use Rattle.number.specs.BigEndian.{be}
+use Rattle.uvs.specs.Checksum.{checksum}
 use Rattle.uvs.specs.Tables.{counts}
 use Rattle.same_uvs.specs.Streams.{CodePoints}
 use Rattle.selector_tables.specs.Selectors.{Given, keepsSelector, defaultTable, nonDefaultTable, badKept}
@@ -51,6 +52,12 @@ pub record Numbered (xs : List ℕ) (at : ℕ) (kept flags : List ℕ) (t : ℕ)
   pub below : t < 2 * be 4 xs (at + 6)
   pub beside : length kept ≤ length flags
 
+-- m is the number of all tables, and each kept point has a flag in both rows of flags
+pub record All (xs : List ℕ) (at : ℕ) (kept flags : List ℕ) (m : ℕ) (others : List ℕ) : Type 0 where
+  pub is : m ≡ 2 * be 4 xs (at + 6)
+  pub beside : length kept ≤ length flags
+  pub also : length kept ≤ length others
+
 -- what the length of a new table cannot exceed
 abbrev pub tableMax : ℕ
 tableMax = 1048576
@@ -59,6 +66,17 @@ tableMax = 1048576
 pub record Size (g : Given) (t r : ℕ) : Type 0 where
   pub is : r ≡ length (slot g t)
   pub below : r ≤ tableMax
+
+-- the lengths of m tables
+pub record Lengths (f : ℕ → List ℕ) (m : ℕ) (ls : List ℕ) : Type 0 where
+  pub room : m ≤ length ls
+  pub each : (j : ℕ) → j < m → getD ls j 0 ≡ length (f j)
+  pub small : (j : ℕ) → j < m → getD ls j 0 ≤ tableMax
+
+-- their checksums; the records of default tables, which have even numbers, are of 4 bytes, those of the others of 5
+pub record Sums (f : ℕ → List ℕ) (m : ℕ) (ss : List ℕ) : Type 0 where
+  pub room : m ≤ length ss
+  pub each : (j : ℕ) → j < m → getD ss j 0 ≡ checksum (4 + j % 2) (f j)
 
 -- both tables are there
 pub record Both (g : Given) (i j : ℕ) : Type 0 where

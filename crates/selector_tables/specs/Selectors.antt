@@ -1,8 +1,9 @@
 -- The selector records of the source's format 14 subtable, which of them are kept, and their new tables (docs/01-rules.md, "Format 14").
 use Prim.Native.Nat.{ℕ, _+_, _*_}
-use mathlib.Core.List.{List, []}
-use mathlib.Core.Bool.{Bool}
+use mathlib.Core.List.{List, [], _∷_}
+use mathlib.Core.Bool.{Bool, true, false}
 use Rattle.laws.specs.Choice.{pick, both}
+use Rattle.laws.specs.Select.{each, select, anyOf}
 use Rattle.marks.specs.Marks.{holds}
 use Rattle.number.specs.BigEndian.{be}
 use Rattle.uvs.specs.Tables.{countsDefault, countsNonDefault}
@@ -38,6 +39,10 @@ nonDefaultOffset g k = be 4 (g .source) (g .start + 10 + 11 * k + 7)
 unfoldable pub keepsSelector : Given → ℕ → Bool
 keepsSelector g k = holds (g .kept) (varSelector g k)
 
+-- the numbers of the records whose selector is kept, in order, of n records from k on
+abbrev pub keptRecords : Given → ℕ → ℕ → List ℕ
+keptRecords g n k = select (keepsSelector g) (each (λ i. i) n k)
+
 -- ---- its new tables; a table that does not count gives no new one, which the empty list stands for
 
 unfoldable pub defaultTable : Given → ℕ → List ℕ
@@ -50,7 +55,17 @@ nonDefaultTable g k =
     pick (countsNonDefault (g .source) (g .start) (g .size) (nonDefaultOffset g k))
     (newNonDefault (g .source) (g .start + nonDefaultOffset g k) (g .kept) (g .glyphs) (g .requested)) []
 
--- refusal 8 for it: its non-default table counts and has a mapping to be kept that names a missing glyph
+abbrev pub there : List ℕ → Bool
+there [] = false
+there (b ∷ bs) = true
+
+-- the table alone, or nothing for a missing one
+abbrev pub one : List ℕ → List (List ℕ)
+one t = pick (there t) (t ∷ []) []
+
+-- ---- refusal 8
+
+-- for record k: its non-default table counts and has a mapping to be kept that names a missing glyph
 unfoldable pub badRecord : Given → ℕ → Bool
 badRecord g k =
     both (countsNonDefault (g .source) (g .start) (g .size) (nonDefaultOffset g k))
@@ -58,3 +73,7 @@ badRecord g k =
 
 abbrev pub badKept : Given → ℕ → Bool
 badKept g k = both (keepsSelector g k) (badRecord g k)
+
+-- refusal 8: a kept selector record has a mapping to be kept that names a missing glyph
+abbrev pub refused8 : Given → Bool
+refused8 g = anyOf (badRecord g) (keptRecords g (selectorRecords g) 0)

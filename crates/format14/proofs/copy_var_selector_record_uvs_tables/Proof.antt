@@ -3,7 +3,7 @@ use borrow.Author.Needs.{needs}
 use native.Mathlib.Omega.{arith}
 use mathlib.Core.Path.{_≡_}
 use lib.ListN.{length}
-use Rattle.format14.proofs.LoopLaws.{Filling, filling, slot-room, far-fits}
+use Rattle.format14.proofs.FillingLaws.{Filling, filling, slot-room, far-fits}
 use Rattle.selector_tables.specs.Selectors.{given}
 use Rattle.selector_tables.specs.ByNumber.{slot}
 use Rattle.format14.proofs.copy_var_selector_record_uvs_tables.Statement.{statement}

@@ -1,0 +1,24 @@
+-- Inner: what the functions of this crate hand to each other; no promise names it.
+use Prim.Native.Nat.{ℕ, _%_, _<_, _≤_}
+use mathlib.Core.Path.{_≡_}
+use mathlib.Core.List.{List}
+use mathlib.Core.Bool.{Bool}
+use lib.ListN.{length, getD}
+use Rattle.laws.specs.Search.{some}
+use Rattle.selector_tables.specs.ByNumber.{badSlot, Source}
+use Rattle.selector_tables.specs.Selectors.{Given}
+
+-- where the sources of t tables stand
+pub record Sources (xs : List ℕ) (at len : ℕ) (kept : List ℕ) (t : ℕ) (ps : List ℕ) : Type 0 where
+  pub room : t ≤ length ps
+  pub each : (j : ℕ) → j < t → Source xs at len kept j (getD ps j 0)
+
+-- r is t, or a table before it of its sort whose source stands at `off`
+pub record Earlier (ps : List ℕ) (t off r : ℕ) : Type 0 where
+  pub sort : r % 2 ≡ t % 2
+  pub within : r ≤ t
+  pub place : r < t → getD ps r 0 ≡ off
+
+-- whether one of the first t tables brings refusal 8
+pub record Refused (g : Given) (t : ℕ) (b : Bool) : Type 0 where
+  pub is : b ≡ some (badSlot g) t 0

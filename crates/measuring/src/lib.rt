@@ -1,0 +1,131 @@
+// The new tables of a format 14 subtable, measured: lengths, checksums and refusal 8. A table whose source stood before is not measured again.
+ghost use mathlib.Core.Path.{_≡_};
+ghost use Prim.Native.Nat.{_+_, _%_, _≤_};
+ghost use lib.ListN.{length};
+ghost use Rattle.uvs.specs.Checksum.{checksum};
+ghost use Rattle.selector_tables.specs.Selectors.{given, refused8};
+ghost use Rattle.selector_tables.specs.ByNumber.{slot, Source, Readable, Numbered, All, Size, Lengths, Sums};
+ghost use Rattle.measuring.specs.Measuring.{Sources, Earlier, Refused};
+
+// The last table before t, of t's sort, whose source stands at `off`; t if there is none.
+fn earlier(sources: &[usize], t: usize, off: usize) -> usize
+    requires { ⌜ t ≤ length (now sources) ⌝ }
+    ensures { λ r. ⌜ Earlier (now (sources .entry)) t off r ⌝ }
+{
+    let mut u = t;
+    while 2 <= u {
+        u -= 2;
+        if sources[u] == off {
+            return u;
+        }
+    }
+    t
+}
+
+// The length of a new table, a checksum of its bytes, and whether it or one before it brings refusal 8.
+struct Measured {
+    size: usize,
+    sum: u64,
+    refused: bool,
+}
+
+// The same of table t, whose source stands at `off`. A table from the place of an earlier one is like that one and not measured again.
+// The flags are work room.
+fn measure_one(
+    s: &[u8],
+    at: usize,
+    len: usize,
+    kept: &[u32],
+    map: &[u16],
+    requested: &[u16],
+    flags: &mut [u8],
+    lengths: &[usize],
+    sums: &[u64],
+    sources: &[usize],
+    t: usize,
+    off: usize,
+    refused: bool,
+) -> Measured
+    requires { ⌜ Readable (now s) at len (now kept) (now requested) ⌝ }
+    requires { ⌜ Numbered (now s) at (now kept) (now flags) t ⌝ }
+    requires { ⌜ Source (now s) at len (now kept) t off ⌝ }
+    requires { ⌜ Lengths (slot (given (now s) at len (now kept) (now map) (now requested))) t (now lengths) ⌝ }
+    requires { ⌜ Sums (slot (given (now s) at len (now kept) (now map) (now requested))) t (now sums) ⌝ }
+    requires { ⌜ Sources (now s) at len (now kept) t (now sources) ⌝ }
+    requires { ⌜ Refused (given (now s) at len (now kept) (now map) (now requested)) t refused ⌝ }
+    ensures { λ r. ⌜ Size (given (now (s .entry)) at len (now (kept .entry)) (now (map .entry)) (now (requested .entry))) t (r .size) ⌝ }
+    ensures { λ r. ⌜ r .sum ≡ checksum (4 + t % 2) (slot (given (now (s .entry)) at len (now (kept .entry)) (now (map .entry)) (now (requested .entry))) t) ⌝ }
+    ensures { λ r. ⌜ Refused (given (now (s .entry)) at len (now (kept .entry)) (now (map .entry)) (now (requested .entry))) (t + 1) (r .refused) ⌝ }
+{
+    let u = earlier(sources, t, off);
+    if u < t {
+        return Measured {
+            size: lengths[u],
+            sum: sums[u],
+            refused: refused,
+        };
+    }
+    let table = selector_tables::measure_table(s, at, len, kept, map, requested, flags, t, off);
+    if table.bad {
+        return Measured {
+            size: table.size,
+            sum: table.sum,
+            refused: true,
+        };
+    }
+    Measured {
+        size: table.size,
+        sum: table.sum,
+        refused: refused,
+    }
+}
+
+// The lengths and checksums of the m new tables, and refusal 8: whether some kept selector record has a mapping to be kept that names a missing
+// glyph. The flags are work room, and the sources' places a row for this walk.
+pub fn measure(
+    s: &[u8],
+    at: usize,
+    len: usize,
+    kept: &[u32],
+    map: &[u16],
+    requested: &[u16],
+    flags: &mut [u8],
+    lengths: &mut [usize],
+    sums: &mut [u64],
+    sources: &mut [usize],
+    m: usize,
+) -> bool
+    requires { ⌜ Readable (now s) at len (now kept) (now requested) ⌝ }
+    requires { ⌜ All (now s) at (now kept) (now flags) m (now flags) ⌝ }
+    requires { ⌜ (m ≤ length (now lengths)) × ((m ≤ length (now sums)) × (m ≤ length (now sources))) ⌝ }
+    ensures { λ r. ⌜ r ≡ refused8 (given (now (s .entry)) at len (now (kept .entry)) (now (map .entry)) (now (requested .entry))) ⌝ }
+    ensures { λ _. ⌜ Lengths (slot (given (now (s .entry)) at len (now (kept .entry)) (now (map .entry)) (now (requested .entry)))) m (now (lengths .exit)) ⌝ }
+    ensures { λ _. ⌜ Sums (slot (given (now (s .entry)) at len (now (kept .entry)) (now (map .entry)) (now (requested .entry)))) m (now (sums .exit)) ⌝ }
+{
+    let mut t = 0;
+    let mut refused = false;
+    while t < m {
+        let off = selector_tables::source_table(s, at, len, kept, requested, t);
+        let table = measure_one(
+            s,
+            at,
+            len,
+            kept,
+            map,
+            requested,
+            flags,
+            lengths,
+            sums,
+            sources,
+            t,
+            off,
+            refused,
+        );
+        lengths[t] = table.size;
+        sums[t] = table.sum;
+        sources[t] = off;
+        refused = table.refused;
+        t += 1;
+    }
+    refused
+}

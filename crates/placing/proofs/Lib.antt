@@ -1,0 +1,3 @@
+pub mod SlotsLaws
+pub mod PlacingLaws
+pub mod EqualLaws

@@ -1,0 +1,116 @@
+-- The loop that places the tables from the last to the first: its invariant, and a rule for each way on.
+use Prim.Native.Nat.{ℕ, _+_, _-_, _*_, _^_, _<_, _≤_}
+use mathlib.Core.Path.{_≡_, sym, ap, _∙_}
+use mathlib.Core.List.{List}
+use mathlib.Core.Bool.{Bool}
+use native.Mathlib.Omega.{arith}
+use lib.ListN.{length, getD, set, length-set}
+use lib.Seq.{getD-set-same, getD-set-other}
+use Rattle.laws.specs.Pieces.{concat}
+use Rattle.laws.specs.Select.{eqList}
+use Rattle.laws.specs.Lasts.{lasts, behind}
+use Rattle.laws.proofs.ChoiceLaws.{by-leb}
+use Rattle.laws.proofs.FirstLaws.{first-from, first-holds, first-none}
+use Rattle.laws.proofs.EqListLaws.{eq-true}
+use Rattle.laws.proofs.LastsLaws.{length-concat}
+use Rattle.selector_tables.specs.ByNumber.{tableMax, Readable, All, Lengths}
+use Rattle.placing.specs.Ends.{from, Written, laterEqual, Ends, Total}
+use Rattle.placing.proofs.SlotsLaws.{from-apart, written-missing, written-again, written-new, behind-missing, behind-new, among-from}
+
+-- the tables from k on have their distances, and tail is the length of those written
+pub record Placing (f : ℕ → List ℕ) (m k : ℕ) (ends : List ℕ) (tail : ℕ) : Type 0 where
+  pub within : k ≤ m
+  pub room : m ≤ length ends
+  pub total : tail ≡ length (concat (Written f m k))
+  pub few : tail ≤ tableMax * (m - k)
+  pub each : (j : ℕ) → k ≤ j → j < m → getD ends j 0 ≡ behind (f j) (Written f m 0)
+
+pub placing-start : (f : ℕ → List ℕ) (m : ℕ) (ends : List ℕ) → m ≤ length ends → Placing f m m ends 0
+unfolding from lasts concat
+placing-start f m ends h =
+    let e : m - m ≡ 0 = omega arith in
+    record { within = omega arith; room = h; total = rw e; few = omega arith; each = λ j a b. absurd (omega arith) }
+
+module _ (f : ℕ → List ℕ) (m k : ℕ) (ends : List ℕ) (tail : ℕ) (ls : List ℕ) (p : Placing f m k ends tail) (q : Lengths f m ls) (h : 0 < k) where
+  -- the distance of one more table
+  each-more : (v : ℕ) → v ≡ behind (f (k - 1)) (Written f m 0) → (j : ℕ) → k - 1 ≤ j → j < m → getD (set ends (k - 1) v) j 0 ≡ behind (f j) (Written f m 0)
+  each-more v e j a b =
+      by-leb (getD (set ends (k - 1) v) j 0 ≡ behind (f j) (Written f m 0)) j (k - 1)
+      (λ l.
+      let same : j ≡ k - 1 = omega arith in
+      rw same (getD-set-same ends (k - 1) v 0 (omega (arith, p .room, p .within)) ∙ e))
+      (λ l. getD-set-other ends (k - 1) j v 0 (λ d. omega arith) ∙ p .each j (omega arith) b)
+
+  back : k - 1 + 1 ≡ k
+  back = omega arith
+
+  inside : k - 1 < m
+  inside = omega (arith, p .within)
+
+  length-is : getD ls (k - 1) 0 ≡ length (f (k - 1))
+  length-is = q .each (k - 1) inside
+
+  pub placing-missing : getD ls (k - 1) 0 ≡ 0 → Placing f m (k - 1) (set ends (k - 1) 0) tail
+  placing-missing z =
+      let none : length (f (k - 1)) ≡ 0 = sym length-is ∙ z in
+      let same = rw back at (written-missing f m (k - 1) inside none) in
+      record {
+        within = omega (arith, p .within);
+        room = rw length-set (p .room);
+        total = rw same (p .total);
+        few = omega (arith, p .few, p .within);
+        each = each-more 0 (sym (behind-missing f m (k - 1) none));
+      }
+
+  -- j is the code's own answer for the next equal table
+  module _ (j : ℕ) (e : j ≡ laterEqual f m (k - 1)) (z : getD ls (k - 1) 0 ≡ 0 → ⊥) where
+    some-length : 0 < length (f (k - 1))
+    some-length = omega (arith, length-is)
+
+    pub placing-again : j < m → Placing f m (k - 1) (set ends (k - 1) (getD ends j 0)) tail
+    placing-again l =
+        let t : ℕ → Bool = λ i. eqList (f (k - 1)) (f i) in
+        let low = first-from t (m - (k - 1 + 1)) (k - 1 + 1) in
+        let yes = first-holds t (m - (k - 1 + 1)) (k - 1 + 1) (omega (arith, e, p .within)) in
+        let equal : f (k - 1) ≡ f j = eq-true (f (k - 1)) (f j) (rw e yes) in
+        let here = among-from f (m - (k - 1 + 1)) (k - 1 + 1) j (omega (arith, e)) (omega (arith, p .within)) (rw equal at some-length) in
+        let same = rw back at (written-again f m (k - 1) inside some-length (rw equal here)) in
+        record {
+          within = omega (arith, p .within);
+          room = rw length-set (p .room);
+          total = rw same (p .total);
+          few = omega (arith, p .few, p .within);
+          each = each-more (getD ends j 0) (p .each j (omega (arith, e)) l ∙ ap (λ u. behind u (Written f m 0)) (sym equal));
+        }
+
+    pub placing-new : m ≤ j → Placing f m (k - 1) (set ends (k - 1) (tail + getD ls (k - 1) 0)) (tail + getD ls (k - 1) 0)
+    placing-new l =
+        let t : ℕ → Bool = λ i. eqList (f (k - 1)) (f i) in
+        let no = first-none t (m - (k - 1 + 1)) (k - 1 + 1) (omega (arith, e, p .within)) in
+        let apart = from-apart f (f (k - 1)) (m - (k - 1 + 1)) (k - 1 + 1) no in
+        let fresh = rw back at (written-new f m (k - 1) inside some-length apart) in
+        let far = rw back at (behind-new f m (k - 1) inside some-length apart) in
+        record {
+          within = omega (arith, p .within);
+          room = rw length-set (p .room);
+          total = rw (fresh, length-concat (f (k - 1)) (Written f m k)) (omega (arith, p .total, length-is));
+          few = omega (arith, p .few, p .within, q .small (k - 1) inside);
+          each = each-more (tail + getD ls (k - 1) 0) (omega (arith, far, p .total, length-is));
+        }
+
+-- at the end every table has its distance
+pub placing-ends : (f : ℕ → List ℕ) (m k : ℕ) (ends : List ℕ) (tail : ℕ) → Placing f m k ends tail → k ≤ 0 → Ends f m ends
+placing-ends f m k ends tail p h = record { room = p .room; each = λ j b. p .each j (omega arith) b }
+
+pub placing-total : (f : ℕ → List ℕ) (m k : ℕ) (ends : List ℕ) (tail : ℕ) → Placing f m k ends tail → k ≤ 0 → Total f m tail
+placing-total f m k ends tail p h =
+    let z : k ≡ 0 = omega arith in
+    record { is = rw z at (p .total); few = omega (arith, p .few) }
+
+pub ruleset placing = (placing-start, placing-missing, placing-again, placing-new)
+
+-- sums stay small
+pub tail-fits : (f : ℕ → List ℕ) (m k : ℕ) (ends : List ℕ) (tail : ℕ) (ls xs : List ℕ) (at len : ℕ) (kept requested flags others : List ℕ) → Placing f m k ends tail → Lengths f m ls → 0 < k
+    → Readable xs at len kept requested → All xs at kept flags m others → tail + getD ls (k - 1) 0 < 2 ^ 64
+tail-fits f m k ends tail ls xs at len kept requested flags others p q h r a =
+    omega (arith, p .few, p .within, q .small (k - 1) (omega (arith, p .within)), r .few, a .is)
