@@ -23,8 +23,10 @@ use Rattle.ranges.specs.Cutting.{commitRun, cutRuns, cuts, segments, glyphArray
 use Rattle.ranges.specs.Steps.{arrayFrom}
 use Rattle.format4.specs.Format4.{offsetsFrom, floorLog2, header, format4}
 use Rattle.format4.specs.Size.{sizeOf}
-use Rattle.plan.specs.declared.Outcome.the-variants.{NotRetained, Made}
-use Rattle.plan.specs.Plan.{tableOf, fresh, serves, server, retainedOutcome, outcomeOf, outcomes, plan, refused8, refused9}
+use Rattle.outcomes.specs.declared.Outcome.the-variants.{NotRetained, Made}
+use Rattle.outcomes.specs.Outcomes.{serves, server}
+use Rattle.fresh.specs.Fresh.{tableOf, fresh}
+use Rattle.plan.specs.Plan.{retainedOutcome, outcomeOf, outcomes, plan, refused8, refused9}
 use Rattle.result.specs.Refusal.{refusalOf}
 use Rattle.result.specs.Result.{countFrom, sizesFrom, recordsFrom, tablesBelow, resultOf}
 use Rattle.lookup.specs.Lookup.{inArray, inSegment, find4, lookup4}

@@ -25,8 +25,10 @@ use Rattle.listing.specs.Listing.{maps}
 use Rattle.heads.specs.declared.Answer.{Answer}
 use Rattle.heads.specs.declared.Answer.the-variants.{Glyph, Refused}
 use Rattle.heads.specs.Heads.{oldHead, newHead, numberOf, printedOf}
-use Rattle.plan.specs.declared.Outcome.{Outcome}
-use Rattle.plan.specs.Plan.{listedOf, isMade, plan, counts, refused9}
+use Rattle.outcomes.specs.declared.Outcome.{Outcome}
+use Rattle.outcomes.specs.Outcomes.{isMade}
+use Rattle.fresh.specs.Fresh.{listedOf}
+use Rattle.plan.specs.Plan.{plan, counts, refused9}
 use Rattle.made.specs.Lent.{Lent}
 use Rattle.made.proofs.LentLaws.{lent}
 use Rattle.made.proofs.ListedLaws.{listed-glyph}

@@ -14,7 +14,7 @@ use Rattle.laws.proofs.ChoiceLaws.{by-pick}
 use Rattle.laws.proofs.FrontLaws.{sets-front}
 use Rattle.source.proofs.HeaderLaws.{accepted-of}
 use Rattle.listing.specs.Job.{Job}
-use Rattle.plan.specs.declared.Outcome.{Outcome}
+use Rattle.outcomes.specs.declared.Outcome.{Outcome}
 use Rattle.plan.specs.Plan.{plan}
 use Rattle.made.proofs.MadeLaws.{made-length}
 use Rattle.made.proofs.PlanLaws.{plan-made}

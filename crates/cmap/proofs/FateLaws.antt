@@ -9,9 +9,10 @@ use Rattle.source.specs.declared.EncodingRecord.{EncodingRecord}
 use Rattle.source.specs.Header.{recordCount, recordOf}
 use Rattle.records.specs.Records.{Placed, Counted}
 use Rattle.listing.specs.Job.{Job, job}
-use Rattle.plan.specs.declared.Outcome.{Outcome}
-use Rattle.plan.specs.declared.Outcome.the-variants.{Served, Made}
-use Rattle.plan.specs.Plan.{plan, Small}
+use Rattle.outcomes.specs.declared.Outcome.{Outcome}
+use Rattle.outcomes.specs.declared.Outcome.the-variants.{Served, Made}
+use Rattle.outcomes.specs.Outcomes.{Small}
+use Rattle.plan.specs.Plan.{plan}
 use Rattle.made.proofs.PlanLaws.{plan-served}
 use Rattle.result.specs.Result.{at, offsetOf}
 use Rattle.result.specs.Refusal.{refusalOf, earlyRefusal, lateRefusal}

@@ -16,9 +16,10 @@ use Rattle.number.specs.Limits.{recordsMax}
 use Rattle.source.specs.Header.{recordCount}
 use Rattle.source.proofs.HeaderLaws.{accepted-of}
 use Rattle.listing.specs.Job.{Job}
-use Rattle.plan.specs.declared.Outcome.{Outcome}
-use Rattle.plan.specs.declared.Outcome.the-variants.{NotRetained, Skipped, Empty, TooLong, Covered, BadMapping, Served, Made}
-use Rattle.plan.specs.Plan.{plan, isBad, refused8}
+use Rattle.outcomes.specs.declared.Outcome.{Outcome}
+use Rattle.outcomes.specs.declared.Outcome.the-variants.{NotRetained, Skipped, Empty, TooLong, Covered, BadMapping, Served, Made}
+use Rattle.outcomes.specs.Outcomes.{isBad}
+use Rattle.plan.specs.Plan.{plan, refused8}
 use Rattle.result.specs.Result.{at, written}
 use Rattle.result.specs.Refusal.{Case, firstOf, refusalOf, rises}
 use Rattle.result.proofs.RefusalLaws.{Given, given-exactly, Accepted, accepted-exactly, passed}

@@ -19,9 +19,11 @@ use Rattle.source.specs.Kind.{kindAt, formatOf}
 use Rattle.source.proofs.HeaderLaws.{accepted-of, gives-records}
 use Rattle.records.specs.Records.{leadsTo}
 use Rattle.listing.specs.Job.{Job}
-use Rattle.plan.specs.declared.Outcome.{Outcome}
-use Rattle.plan.specs.declared.Outcome.the-variants.{NotRetained, Skipped, Empty, TooLong, Covered, BadMapping, Served, Made}
-use Rattle.plan.specs.Plan.{tableOf, sizeOf, plan}
+use Rattle.outcomes.specs.declared.Outcome.{Outcome}
+use Rattle.outcomes.specs.declared.Outcome.the-variants.{NotRetained, Skipped, Empty, TooLong, Covered, BadMapping, Served, Made}
+use Rattle.outcomes.specs.Outcomes.{sizeOf}
+use Rattle.fresh.specs.Fresh.{tableOf}
+use Rattle.plan.specs.Plan.{plan}
 use Rattle.made.specs.Lent.{Lent}
 use Rattle.made.proofs.LentLaws.{lent}
 use Rattle.made.proofs.TablesLaws.{made-format}

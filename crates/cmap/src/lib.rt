@@ -1,10 +1,10 @@
 // A cmap cut down to the listed code points, and what became of each of its records.
-use plan::Outcome;
+use outcomes::Outcome;
 ghost use mathlib.Core.Path.{_≡_};
 ghost use Prim.Native.Nat.{_<_};
 ghost use lib.ListN.{length};
 ghost use Rattle.listing.specs.Job.{job};
-ghost use Rattle.plan.specs.Plan.{Small};
+ghost use Rattle.outcomes.specs.Outcomes.{Small};
 ghost use Rattle.result.specs.Result.{offsetOf};
 ghost use Rattle.rooms.specs.Rooms.{Planned};
 ghost use Rattle.cmap.specs.declared.FateKind.the-variants.{WrittenAt};

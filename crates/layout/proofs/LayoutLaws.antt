@@ -8,9 +8,10 @@ use lib.ListN.{getD}
 use Rattle.laws.proofs.SearchLaws.{Asking, asking-start, asking-on, asking-yes, asking-no}
 use Rattle.records.specs.Records.{Counted}
 use Rattle.records.proofs.RecordsLaws.{placed}
-use Rattle.plan.specs.declared.Outcome.{Outcome}
-use Rattle.plan.specs.declared.Outcome.the-variants.{NotRetained}
-use Rattle.plan.specs.Plan.{isBad, sizeOf, refused9, counts, Small}
+use Rattle.outcomes.specs.declared.Outcome.{Outcome}
+use Rattle.outcomes.specs.declared.Outcome.the-variants.{NotRetained}
+use Rattle.outcomes.specs.Outcomes.{isBad, sizeOf, Small}
+use Rattle.plan.specs.Plan.{refused9, counts}
 use Rattle.result.specs.Result.{isWritten, countFrom, sizesFrom}
 use Rattle.layout.specs.Layout.{Inside}
 

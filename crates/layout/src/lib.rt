@@ -1,10 +1,11 @@
 // What a plan comes to: refusals 8 and 9, how many records are written, and where tables stand.
-use plan::Outcome;
+use outcomes::Outcome;
 ghost use mathlib.Core.Path.{_≡_};
 ghost use Prim.Native.Nat.{_+_, _*_, _-_, _<_, _≤_};
 ghost use Rattle.laws.specs.Choice.{either};
 ghost use Rattle.records.specs.Records.{leadsToFormat, Placed, Counted};
-ghost use Rattle.plan.specs.Plan.{sizeOf, refused8, refused9, counts, Small};
+ghost use Rattle.outcomes.specs.Outcomes.{sizeOf, Small};
+ghost use Rattle.plan.specs.Plan.{refused8, refused9, counts};
 ghost use Rattle.result.specs.Result.{isWritten, makerOf, sizesFrom, written};
 ghost use Rattle.layout.specs.Layout.{Inside};
 
@@ -14,7 +15,7 @@ pub fn names_missing(os: [Outcome; 64]) -> bool
 {
     let mut k = 0;
     while k < 64 {
-        if plan::is_bad(os[k]) {
+        if outcomes::is_bad(os[k]) {
             return true;
         }
         k += 1;
@@ -27,7 +28,7 @@ fn counts(s: &[u8], os: [Outcome; 64], k: usize) -> bool
     requires { ⌜ Inside (now s) k ⌝ }
     ensures { λ r. ⌜ r ≡ counts (now (s .entry)) os k ⌝ }
 {
-    if plan::is_made(os[k]) {
+    if outcomes::is_made(os[k]) {
         return is_plain(s, k);
     }
     false

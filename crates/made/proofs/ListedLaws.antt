@@ -21,7 +21,7 @@ use Rattle.making.proofs.MakingLaws.{listed-below}
 use Rattle.cut_lookup.specs.Lookup.{Fits, Listed}
 use Rattle.format12_lookup.specs.Lookup.{Above, above-none, above-more}
 use Rattle.format12_lookup.proofs.LookupLaws.{above-pairs}
-use Rattle.plan.specs.Plan.{listedOf}
+use Rattle.fresh.specs.Fresh.{listedOf}
 use Rattle.made.specs.Lent.{Lent}
 
 -- ---- the glyph of a number

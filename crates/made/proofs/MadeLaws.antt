@@ -32,9 +32,10 @@ use Rattle.format14.specs.declared.Outcome.{Outcome as Outcome14}
 use Rattle.format14.specs.declared.Outcome.the-variants.{Refused8, Empty as Empty14, Length}
 use Rattle.format14.specs.Format14.{outcome as outcome14}
 use Rattle.format14.proofs.WholeLaws.{outcome-says}
-use Rattle.plan.specs.declared.Outcome.{Outcome}
-use Rattle.plan.specs.declared.Outcome.the-variants.{Skipped, Made}
-use Rattle.plan.specs.Plan.{listedOf, givenOf, tableAs, tableOf, by4, by14, freshAs, fresh, isMade, sizeOf}
+use Rattle.outcomes.specs.declared.Outcome.{Outcome}
+use Rattle.outcomes.specs.declared.Outcome.the-variants.{Skipped, Made}
+use Rattle.outcomes.specs.Outcomes.{isMade, sizeOf}
+use Rattle.fresh.specs.Fresh.{listedOf, givenOf, tableAs, tableOf, by4, by14, freshAs, fresh}
 
 -- another outcome than a made table
 pub not-made : (P : Type 0) (o : Outcome) (n : ℕ) → isMade o ≡ false → o ≡ Made n → P

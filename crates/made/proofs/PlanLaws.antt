@@ -14,11 +14,14 @@ use Rattle.source.specs.Kind.{formatOf}
 use Rattle.records.specs.Records.{leadsTo, leadsToFormat, retained}
 use Rattle.listing.specs.Job.{Job, glyphCount}
 use Rattle.covering.specs.Covered.{covered}
-use Rattle.plan.specs.declared.Outcome.{Outcome}
-use Rattle.plan.specs.declared.Outcome.the-variants.{NotRetained, Skipped, Empty, TooLong, Covered, BadMapping, Served, Made}
-use Rattle.plan.specs.Plan.{fresh, isMade, sizeOf, serves, outcomeOf, outcomes, plan}
-use Rattle.plan.proofs.OutcomeLaws.{made-size}
-use Rattle.plan.proofs.RowLaws.{outcome-past, outcome-at, server, by-outcome, fresh-never}
+use Rattle.outcomes.specs.declared.Outcome.{Outcome}
+use Rattle.outcomes.specs.declared.Outcome.the-variants.{NotRetained, Skipped, Empty, TooLong, Covered, BadMapping, Served, Made}
+use Rattle.outcomes.specs.Outcomes.{isMade, sizeOf, serves}
+use Rattle.fresh.specs.Fresh.{fresh}
+use Rattle.plan.specs.Plan.{outcomeOf, outcomes, plan}
+use Rattle.outcomes.proofs.SizeLaws.{made-size}
+use Rattle.fresh.proofs.KindLaws.{fresh-never}
+use Rattle.plan.proofs.RowLaws.{outcome-past, outcome-at, server, by-outcome}
 use Rattle.made.proofs.MadeLaws.{not-made}
 
 -- ---- only the walk says that a record is served

@@ -29,8 +29,8 @@ use Rattle.format12_lookup.proofs.Format12FindsLaws.{format12-gives-stands, for
 use Rattle.format14.specs.Format14.{rows}
 use Rattle.format14.proofs.ShortLaws.{Modest, rows-few, rows-short}
 use Rattle.format14.proofs.WholeLaws.{length-format14}
-use Rattle.plan.specs.declared.Outcome.the-variants.{Made}
-use Rattle.plan.specs.Plan.{listedOf, givenOf, tableAs, tableOf, fresh}
+use Rattle.outcomes.specs.declared.Outcome.the-variants.{Made}
+use Rattle.fresh.specs.Fresh.{listedOf, givenOf, tableAs, tableOf, fresh}
 use Rattle.made.specs.Lent.{Lent}
 use Rattle.made.proofs.ListedLaws.{above-listed, fits-listed, listed-glyph}
 use Rattle.made.proofs.MadeLaws.{made-length, by-format, made-written4, language12-fits, table-is}

@@ -1,36 +1,18 @@
 -- What becomes of a record, read off the code's answers.
 use Prim.Native.Nat.{ℕ, _<_, _≤_}
-use mathlib.Core.Path.{_≡_, refl, sym, _∙_}
+use mathlib.Core.Path.{_≡_, sym, _∙_}
 use mathlib.Core.List.{List}
 use mathlib.Core.Bool.{Bool, true, false}
-use native.Mathlib.Omega.{arith}
 use lib.ListN.{length}
 use borrow.Author.Tests.{lt-ltb, le-ltb}
-use Rattle.laws.proofs.ChoiceLaws.{false-true}
 use Rattle.records.specs.Records.{retained}
 use Rattle.covering.specs.Covered.{covered}
 use Rattle.listing.specs.Job.{Job, job}
-use Rattle.plan.specs.declared.Outcome.{Outcome}
-use Rattle.plan.specs.declared.Outcome.the-variants.{NotRetained, Skipped, Empty, TooLong, Covered, BadMapping, Served, Made}
-use Rattle.plan.specs.Plan.{isMade, sizeOf, fresh, server, retainedOutcome, outcomeOf, Ready}
-
--- work room that was written to is work room still
-pub ready-again : (j : Job) (k : ℕ) (fs gs tocs togs : List ℕ) → Ready j k fs tocs togs → length gs ≡ length fs → Ready j k gs tocs togs
-ready-again j k fs gs tocs togs r e =
-    let p = r .pairs-ready in
-    record {
-      pairs-ready = record {
-        placed = p .placed;
-        beside = record { glyphs = p .beside .glyphs; flagged = record { rising = p .beside .flagged .rising; beside = omega (arith, p .beside .flagged .beside) } };
-        columns = p .columns;
-        few = p .few;
-      };
-      source-small = r .source-small;
-      kept-rises = r .kept-rises;
-      kept-few = r .kept-few;
-      kept-low = r .kept-low;
-      requested-rises = r .requested-rises;
-    }
+use Rattle.outcomes.specs.declared.Outcome.{Outcome}
+use Rattle.outcomes.specs.declared.Outcome.the-variants.{NotRetained, Covered, Served}
+use Rattle.outcomes.specs.Outcomes.{server}
+use Rattle.fresh.specs.Fresh.{fresh}
+use Rattle.plan.specs.Plan.{retainedOutcome, outcomeOf}
 
 module _ (xs cs gs kept map requested : List ℕ) (os : List Outcome) (k : ℕ) (t : Bool) where
   abbrev j : Job
@@ -63,25 +45,3 @@ pub retained-told : (xs : List ℕ) (k : ℕ) (t : Bool) → t ≡ retained xs k
 retained-told xs k t q e = sym q ∙ e
 
 pub ruleset outcome-rules = (covered-yes, served-by, is-fresh, retained-yes, retained-no, retained-told)
-
--- ---- what it tells of an outcome that it is "made", or is not
-
-pub made-size : (o : Outcome) → isMade o ≡ true → o ≡ Made (sizeOf o)
-made-size NotRetained e = absurd (false-true e)
-made-size Skipped e = absurd (false-true e)
-made-size Empty e = absurd (false-true e)
-made-size TooLong e = absurd (false-true e)
-made-size Covered e = absurd (false-true e)
-made-size BadMapping e = absurd (false-true e)
-made-size (Served r) e = absurd (false-true e)
-made-size (Made n) e = refl
-
-pub unmade-size : (o : Outcome) → isMade o ≡ false → sizeOf o ≡ 0
-unmade-size NotRetained e = refl
-unmade-size Skipped e = refl
-unmade-size Empty e = refl
-unmade-size TooLong e = refl
-unmade-size Covered e = refl
-unmade-size BadMapping e = refl
-unmade-size (Served r) e = refl
-unmade-size (Made n) e = absurd (false-true (sym e))

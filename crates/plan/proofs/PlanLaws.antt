@@ -1,18 +1,19 @@
 -- The walk over the records: what is worked out so far is the row of outcomes so far.
 use Prim.Native.Nat.{ℕ, zero, suc, _+_, _<_, _≤_}
-use mathlib.Core.Path.{_≡_, refl, sym, ap, _∙_}
+use mathlib.Core.Path.{_≡_, refl, ap, _∙_}
 use mathlib.Core.List.{List, [], _∷_}
 use native.Mathlib.Numerals.{add-one}
 use native.Mathlib.Omega.{arith}
 use lib.ListN.{length, getD, set, replicate, length-set}
-use Rattle.records.specs.Records.{Placed, Counted}
 use Rattle.records.proofs.RecordsLaws.{placed}
 use Rattle.covering.specs.Covered.{Rooms}
 use Rattle.listing.specs.Job.{Job, glyphCount}
-use Rattle.plan.specs.declared.Outcome.{Outcome}
-use Rattle.plan.specs.declared.Outcome.the-variants.{NotRetained}
-use Rattle.plan.specs.Plan.{outcomeOf, outcomes, plan, Short, Small, Ready, Prepared}
-use Rattle.plan.specs.Twins.{Earlier}
+use Rattle.outcomes.specs.declared.Outcome.{Outcome}
+use Rattle.outcomes.specs.declared.Outcome.the-variants.{NotRetained}
+use Rattle.outcomes.specs.Outcomes.{Short, Small}
+use Rattle.fresh.specs.Fresh.{Ready}
+use Rattle.plan.specs.Plan.{outcomeOf, outcomes, plan, Prepared}
+use Rattle.plan.specs.Earlier.{Earlier}
 
 -- ---- what is asked for each record
 

@@ -12,21 +12,14 @@ use Rattle.laws.specs.Choice.{pick}
 use Rattle.laws.specs.Search.{first}
 use Rattle.laws.proofs.ChoiceLaws.{by-pick, by-leb}
 use Rattle.number.specs.Limits.{recordsMax}
-use Rattle.source.specs.declared.Kind.{Kind}
-use Rattle.source.specs.declared.Kind.the-variants.{Format4, Format12, Format14, Unreadable}
-use Rattle.records.specs.Records.{leadsTo, retained}
+use Rattle.records.specs.Records.{retained}
 use Rattle.listing.specs.Job.{Job, glyphCount}
 use Rattle.covering.specs.Covered.{covered}
-use Rattle.format4.specs.declared.Size.{Size}
-use Rattle.format4.specs.declared.Size.the-variants.{Empty as Empty4, TooLong as TooLong4, Fits}
-use Rattle.format4.specs.Size.{sizeOf as sizeOf4, lengthOf as lengthOf4}
-use Rattle.format12.specs.Format12.{sizeOf as sizeOf12}
-use Rattle.format14.specs.declared.Outcome.{Outcome as Outcome14}
-use Rattle.format14.specs.declared.Outcome.the-variants.{Refused8, Empty as Empty14, Length}
-use Rattle.format14.specs.Format14.{outcome as outcome14}
-use Rattle.plan.specs.declared.Outcome.{Outcome}
-use Rattle.plan.specs.declared.Outcome.the-variants.{NotRetained, Skipped, Empty, TooLong, Covered, BadMapping, Served, Made}
-use Rattle.plan.specs.Plan.{server as earliest, retainedOutcome, listedOf, givenOf, by4, by14, freshAs, fresh, serves, outcomeOf, outcomes}
+use Rattle.outcomes.specs.declared.Outcome.{Outcome}
+use Rattle.outcomes.specs.declared.Outcome.the-variants.{NotRetained, Covered, Served}
+use Rattle.outcomes.specs.Outcomes.{server as earliest, serves}
+use Rattle.fresh.specs.Fresh.{fresh}
+use Rattle.plan.specs.Plan.{retainedOutcome, outcomeOf, outcomes}
 
 -- ---- the row of outcomes
 
@@ -82,26 +75,3 @@ module _ (j : Job) (os : List Outcome) (k : ℕ) where
       (λ g. c e f (ltb-true server k g))
       (λ g. d e f (ltb-false server k g))))
       a
-
--- ---- what is never fresh
-
-pub fresh-never : (j : Job) (k : ℕ) (p : Outcome → Bool) → p Skipped ≡ false → p Empty ≡ false → p TooLong ≡ false → p BadMapping ≡ false → ((n : ℕ) → p (Made n) ≡ false)
-    → p (fresh j k) ≡ false
-unfolding fresh
-fresh-never j k p skipped empty long bad made = go (leadsTo (j .source) k)
-  where
-    size4 : (size : Size) → p (by4 size) ≡ false
-    size4 Empty4 = empty
-    size4 TooLong4 = long
-    size4 (Fits c) = made (lengthOf4 c)
-
-    size14 : (o : Outcome14) → p (by14 o) ≡ false
-    size14 Refused8 = bad
-    size14 Empty14 = empty
-    size14 (Length n) = made n
-
-    go : (kind : Kind) → p (freshAs kind j k) ≡ false
-    go (Format4 language s len) = size4 (sizeOf4 (listedOf j k))
-    go (Format12 language g len) = made (sizeOf12 (listedOf j k) .bytes)
-    go (Format14 r len) = size14 (outcome14 (givenOf j k len))
-    go Unreadable = skipped

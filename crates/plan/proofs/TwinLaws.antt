@@ -2,71 +2,29 @@
 use Prim.Native.Nat.{ℕ, _<_}
 use mathlib.Core.Path.{_≡_, refl, sym, ap, _∙_}
 use mathlib.Core.List.{List}
-use mathlib.Core.Bool.{Bool, true, false}
+use mathlib.Core.Bool.{Bool, true}
 use native.Mathlib.Omega.{arith}
 use lib.Dec.{leb, eqb}
 use lib.ListN.{length, getD}
 use borrow.Author.Tests.{eqb-true}
 use Rattle.laws.specs.Choice.{both}
-use Rattle.laws.specs.Lists.{Pair, pairs}
 use Rattle.laws.specs.Select.{select, anyOf, eqList}
 use Rattle.laws.proofs.ChoiceLaws.{both-left, both-right, false-true}
 use Rattle.laws.proofs.FirstLaws.{first-ext, first-holds}
-use Rattle.laws.proofs.SearchLaws.{Finding, looking-start, looks}
-use Rattle.source.specs.declared.Kind.{Kind}
-use Rattle.source.specs.declared.Kind.the-variants.{Format4, Format12, Format14, Unreadable}
-use Rattle.source.specs.declared.EncodingRecord.{EncodingRecord}
-use Rattle.source.specs.Header.{recordCount, platformOf, encodingOf, offsetOf, recordOf}
-use Rattle.source.specs.Kind.{kindAt}
-use Rattle.records.specs.Records.{leadsTo, isPair, bmpPair, fullPair, retained}
+use Rattle.source.specs.Header.{recordCount, platformOf, encodingOf, offsetOf}
+use Rattle.records.specs.Records.{leadsTo, bmpPair, fullPair, retained}
 use Rattle.covering.specs.Covered.{isSibling, firstSibling, reachesAbove, mapAlike, siblingCovers, covered}
 use Rattle.listing.specs.Job.{Job, job, glyphCount}
-use Rattle.listing.specs.Listing.{mapsAs, maps, listed}
-use Rattle.format4.specs.Size.{sizeOf as sizeOf4}
-use Rattle.format12.specs.Format12.{sizeOf as sizeOf12}
-use Rattle.selector_tables.specs.Selectors.{given}
-use Rattle.format14.specs.Format14.{outcome as outcome14}
-use Rattle.plan.specs.declared.Outcome.{Outcome}
-use Rattle.plan.specs.declared.Outcome.the-variants.{NotRetained, Made}
-use Rattle.plan.specs.Plan.{listedOf, by4, by14, freshAs, fresh, outcomes, Short}
-use Rattle.plan.specs.Twins.{isCovered, cameToNothing, isTwin, twin, isSpent, spent, Earlier, Tells}
-use Rattle.plan.proofs.RowLaws.{outcome-at, by-outcome, covers, fresh-never}
-use Rattle.plan.proofs.ServesLaws.{two}
-
--- ---- the searches, read off the code's answers
-
-module _ (xs : List ℕ) (k r : ℕ) (e : EncodingRecord) (t : Bool) (q : e ≡ recordOf xs k) (p : t ≡ isPair (e .platform) (e .encoding) xs r) where
-  asked : t ≡ isPair (platformOf xs k) (encodingOf xs k) xs r
-  asked = rw q at p
-
-  pub twin-no : t ≡ false → false ≡ isTwin xs k r
-  unfolding isTwin
-  twin-no f = rw (← asked, f)
-
-  pub twin-then : (at : ℕ) → t ≡ true → at ≡ offsetOf xs r → eqb at (e .offset) ≡ isTwin xs k r
-  unfolding isTwin
-  twin-then at f h = rw (← asked, f, h, q)
-
-module _ (xs : List ℕ) (os : List Outcome) (k r : ℕ) (t : Bool) (q : t ≡ cameToNothing (getD os r NotRetained)) where
-  pub spent-no : t ≡ false → false ≡ isSpent xs os k r
-  unfolding isSpent
-  spent-no e = rw (← q, e)
-
-  pub spent-then : (a b : ℕ) → t ≡ true → a ≡ offsetOf xs r → b ≡ offsetOf xs k → eqb a b ≡ isSpent xs os k r
-  unfolding isSpent
-  spent-then a b e f g = rw (← q, e, f, g)
-
-pub ruleset twin-tests = (twin-no, twin-then, spent-no, spent-then)
-
-pub twin-start : (xs : List ℕ) (k : ℕ) → Finding (isTwin xs k) k 0 (twin xs k)
-unfolding twin
-twin-start xs k = looking-start (isTwin xs k) k
-
-pub spent-start : (xs : List ℕ) (os : List Outcome) (k : ℕ) → Finding (isSpent xs os k) k 0 (spent xs os k)
-unfolding spent
-spent-start xs os k = looking-start (isSpent xs os k) k
-
-pub ruleset twin-search = (twin-start, spent-start, looks, two)
+use Rattle.listing.specs.Listing.{maps}
+use Rattle.outcomes.specs.declared.Outcome.{Outcome}
+use Rattle.outcomes.specs.declared.Outcome.the-variants.{NotRetained}
+use Rattle.outcomes.specs.Outcomes.{Short}
+use Rattle.fresh.specs.Fresh.{fresh}
+use Rattle.plan.specs.Plan.{outcomes}
+use Rattle.outcomes.specs.Twins.{isCovered, cameToNothing, isTwin, twin, isSpent, spent}
+use Rattle.plan.specs.Earlier.{Earlier, Tells}
+use Rattle.fresh.proofs.KindLaws.{fresh-never, leads-alike, maps-alike, fresh-alike}
+use Rattle.plan.proofs.RowLaws.{outcome-at, by-outcome, covers}
 
 -- ---- what depends on the pair and the offset alone
 
@@ -92,14 +50,6 @@ retained-alike : (xs : List ℕ) (k r : ℕ) → Alike xs k r → retained xs r 
 unfolding retained bmpPair fullPair leadsTo
 retained-alike xs k r a = rw (a .platform, a .encoding, a .offset)
 
-leads-alike : (xs : List ℕ) (k r : ℕ) → offsetOf xs r ≡ offsetOf xs k → leadsTo xs r ≡ leadsTo xs k
-unfolding leadsTo
-leads-alike xs k r e = ap (kindAt xs) e
-
-maps-alike : (xs : List ℕ) (n k r : ℕ) → offsetOf xs r ≡ offsetOf xs k → maps xs n r ≡ maps xs n k
-unfolding maps leadsTo
-maps-alike xs n k r e = ap {B = ℕ → Bool} (λ (at c : ℕ). mapsAs (kindAt xs at) xs at n c) e
-
 module _ (xs : List ℕ) (n : ℕ) (kept : List ℕ) (k r : ℕ) (a : Alike xs k r) where
   sibling-alike : firstSibling xs r ≡ firstSibling xs k
   unfolding firstSibling isSibling
@@ -118,21 +68,6 @@ module _ (xs : List ℕ) (n : ℕ) (kept : List ℕ) (k r : ℕ) (a : Alike xs k
   covered-alike : covered xs n kept r ≡ covered xs n kept k
   unfolding covered siblingCovers
   covered-alike = rw (leads-alike xs k r (a .offset), sibling-alike, above-alike, same-alike (firstSibling xs k))
-
-module _ (j : Job) (k r : ℕ) (e : offsetOf (j .source) r ≡ offsetOf (j .source) k) where
-  listed-alike : listedOf j r ≡ listedOf j k
-  unfolding listed
-  listed-alike = ap (λ (m : ℕ → Bool). select (λ (p : Pair). m (p .0)) (pairs (j .codes) (j .glyphs))) (maps-alike (j .source) (glyphCount j) k r e)
-
-  fresh-alike : fresh j r ≡ fresh j k
-  unfolding fresh
-  fresh-alike = rw (leads-alike (j .source) k r e) (go (leadsTo (j .source) k))
-    where
-      go : (kind : Kind) → freshAs kind j r ≡ freshAs kind j k
-      go (Format4 language s len) = ap (λ ps. by4 (sizeOf4 ps)) listed-alike
-      go (Format12 language g len) = ap (λ (ps : List Pair). Made (sizeOf12 ps .bytes)) listed-alike
-      go (Format14 n len) = ap (λ (at : ℕ). by14 (outcome14 (given (j .source) at len (j .kept) (j .newGlyphs) (j .requested)))) e
-      go Unreadable = refl
 
 -- ---- what the row tells
 

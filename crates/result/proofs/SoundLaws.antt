@@ -19,9 +19,11 @@ use Rattle.records.specs.Records.{leadsTo, leadsToFormat}
 use Rattle.listing.specs.Job.{Job}
 use Rattle.format12_lookup.proofs.BytesLaws.{groups-few}
 use Rattle.format12_lookup.proofs.Format12KindLaws.{length-is}
-use Rattle.plan.specs.declared.Outcome.the-variants.{Made}
-use Rattle.plan.specs.Plan.{listedOf, isMade, sizeOf, fresh, plan}
-use Rattle.plan.proofs.OutcomeLaws.{made-size, unmade-size}
+use Rattle.outcomes.specs.declared.Outcome.the-variants.{Made}
+use Rattle.outcomes.specs.Outcomes.{isMade, sizeOf}
+use Rattle.fresh.specs.Fresh.{listedOf, fresh}
+use Rattle.plan.specs.Plan.{plan}
+use Rattle.outcomes.proofs.SizeLaws.{made-size, unmade-size}
 use Rattle.made.specs.Lent.{Lent}
 use Rattle.made.proofs.ListedLaws.{above-listed}
 use Rattle.made.proofs.MadeLaws.{made-length, by-format, made-written4, table-is}

@@ -9,8 +9,9 @@ use Rattle.source.proofs.HeaderLaws.{Accepted, accepted-of}
 use Rattle.records.specs.Records.{Counted}
 use Rattle.checks.proofs.SizesLaws.{Sizes, sizes}
 use Rattle.listing.specs.Job.{Job, job}
-use Rattle.plan.specs.declared.Outcome.{Outcome}
-use Rattle.plan.specs.Plan.{plan, Small, Prepared}
+use Rattle.outcomes.specs.declared.Outcome.{Outcome}
+use Rattle.outcomes.specs.Outcomes.{Small}
+use Rattle.plan.specs.Plan.{plan, Prepared}
 use Rattle.result.specs.Result.{written}
 use Rattle.result.specs.Refusal.{earlyRefusal}
 use Rattle.result.proofs.RefusalLaws.{early-passed}

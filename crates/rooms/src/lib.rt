@@ -1,14 +1,15 @@
 // The plan of a job and its result, made in work room of their own.
 use number::limits::KEPT_MAX;
 use number::limits::PAIRS_MAX;
-use plan::Outcome;
+use outcomes::Outcome;
 ghost use mathlib.Core.Path.{_≡_};
 ghost use Prim.Native.Nat.{_≤_};
 ghost use lib.ListN.{length};
 ghost use lib.Seq.{sets};
 ghost use Rattle.source.specs.Header.{recordCount};
 ghost use Rattle.listing.specs.Job.{job};
-ghost use Rattle.plan.specs.Plan.{plan, Small};
+ghost use Rattle.outcomes.specs.Outcomes.{Small};
+ghost use Rattle.plan.specs.Plan.{plan};
 ghost use Rattle.result.specs.Result.{resultLength, resultOf};
 ghost use Rattle.writing.specs.Writing.{Counts};
 ghost use Rattle.rooms.specs.Rooms.{Passing, Planned, Few};

@@ -21,9 +21,10 @@ use Rattle.making.specs.Making.{Fits4}
 use Rattle.selector_tables.specs.Selectors.{given}
 use Rattle.format14.specs.Format14.{format14, rows, lengthOf}
 use Rattle.format14.proofs.WholeLaws.{length-format14}
-use Rattle.plan.specs.declared.Outcome.the-variants.{Made}
-use Rattle.plan.specs.Plan.{tableOf, by4, fresh, sizeOf}
-use Rattle.plan.proofs.FreshLaws.{leads4, readable14}
+use Rattle.outcomes.specs.declared.Outcome.the-variants.{Made}
+use Rattle.outcomes.specs.Outcomes.{sizeOf}
+use Rattle.fresh.specs.Fresh.{tableOf, by4, fresh}
+use Rattle.fresh.proofs.FreshLaws.{leads4, readable14}
 use Rattle.made.proofs.MadeLaws.{not-made, made-length, table-is}
 use Rattle.writing.specs.Parts.{Room}
 

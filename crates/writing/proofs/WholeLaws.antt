@@ -9,7 +9,7 @@ use Rattle.laws.proofs.SetsLaws.{sets-append}
 use Rattle.number.specs.BigEndian.{enc, put}
 use Rattle.number.proofs.BigEndianLaws.{length-enc}
 use Rattle.listing.specs.Job.{Job, job}
-use Rattle.plan.specs.declared.Outcome.{Outcome}
+use Rattle.outcomes.specs.declared.Outcome.{Outcome}
 use Rattle.result.specs.Result.{written, tablesStart, recordsFrom, tablesBelow, resultOf, resultLength}
 use Rattle.writing.specs.Writing.{Planned}
 use Rattle.writing.specs.Parts.{sourced, Laid}

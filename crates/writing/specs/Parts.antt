@@ -6,9 +6,9 @@ use mathlib.Core.Bool.{true}
 use Rattle.number.specs.Limits.{recordsMax}
 use Rattle.records.specs.Records.{Placed}
 use Rattle.listing.specs.Job.{Job, job}
-use Rattle.plan.specs.declared.Outcome.{Outcome}
-use Rattle.plan.specs.declared.Outcome.the-variants.{Made}
-use Rattle.plan.specs.Plan.{fresh}
+use Rattle.outcomes.specs.declared.Outcome.{Outcome}
+use Rattle.outcomes.specs.declared.Outcome.the-variants.{Made}
+use Rattle.fresh.specs.Fresh.{fresh}
 use Rattle.result.specs.Result.{isWritten, makerOf, at}
 use Rattle.writing.specs.Writing.{Counts}
 

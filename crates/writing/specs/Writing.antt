@@ -4,8 +4,9 @@ use mathlib.Core.Path.{_≡_}
 use mathlib.Core.List.{List}
 use Rattle.number.specs.Limits.{recordsMax}
 use Rattle.listing.specs.Job.{Job}
-use Rattle.plan.specs.declared.Outcome.{Outcome}
-use Rattle.plan.specs.Plan.{plan, Small, Prepared}
+use Rattle.outcomes.specs.declared.Outcome.{Outcome}
+use Rattle.outcomes.specs.Outcomes.{Small}
+use Rattle.plan.specs.Plan.{plan, Prepared}
 use Rattle.result.specs.Result.{written}
 
 -- so many records of a plan are written

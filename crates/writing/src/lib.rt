@@ -1,5 +1,5 @@
 // Writing a result by a plan: header, records, and the tables that records make.
-use plan::Outcome;
+use outcomes::Outcome;
 use source::Kind;
 ghost use mathlib.Core.Path.{_≡_};
 ghost use mathlib.Core.List.{_++_};
@@ -8,7 +8,7 @@ ghost use lib.ListN.{length};
 ghost use lib.Seq.{sets};
 ghost use Rattle.number.specs.BigEndian.{enc};
 ghost use Rattle.listing.specs.Job.{job};
-ghost use Rattle.plan.specs.Plan.{tableOf, Ready};
+ghost use Rattle.fresh.specs.Fresh.{tableOf, Ready};
 ghost use Rattle.result.specs.Result.{tablesStart, offsetOf, recordBytes, recordsFrom, tablesBelow, resultOf, resultLength};
 ghost use Rattle.writing.specs.Writing.{Counts, Planned};
 ghost use Rattle.writing.specs.Parts.{sourced, Recorded, Laid, Room};
@@ -165,7 +165,7 @@ fn write_tables(
         k -= 1;
         let o = os[k];
         let next = place + layout::size_of(o);
-        if plan::is_made(o) {
+        if outcomes::is_made(o) {
             write_table(
                 out,
                 place,

@@ -2,7 +2,8 @@ use borrow.Author.Needs.{needs}
 use Rattle.plan.proofs.retained_outcome.Statement.{statement}
 use Rattle.plan.proofs.retained_outcome.Tie as tie
 use Rattle.plan.proofs.TwinLaws.{twins}
-use Rattle.plan.proofs.OutcomeLaws.{outcome-rules, ready-again}
+use Rattle.fresh.proofs.FreshLaws.{ready-again}
+use Rattle.plan.proofs.OutcomeLaws.{outcome-rules}
 
 cast-n : tie.Need-cast-n
 cast-n c = search needs

@@ -1,0 +1,3 @@
+pub mod SizesLaws
+pub mod FreshLaws
+pub mod KindLaws

@@ -1,0 +1,22 @@
+use Rattle.fresh.proofs.SizesLaws.{sizes}
+use borrow.Author.Needs.{needs}
+use Rattle.fresh.proofs.fresh12.Statement.{statement}
+use Rattle.fresh.proofs.fresh12.Tie as tie
+
+size12-requires : tie.Need-size12-requires
+size12-requires c κs = search needs
+
+same-length : tie.Need-same-length
+same-length c = search needs
+
+same-length-2 : tie.Need-same-length-2
+same-length-2 c = search needs
+
+same-length-3 : tie.Need-same-length-3
+same-length-3 c = search needs
+
+returns : tie.Need-returns
+returns c = (search sizes, search sizes)
+
+pub fresh12-spec : {M : Type 1} → statement M
+fresh12-spec = tie.close (tie.spec size12-requires same-length same-length-2 same-length-3 returns)
