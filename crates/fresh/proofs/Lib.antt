@@ -1,3 +1,4 @@
 pub mod SizesLaws
 pub mod FreshLaws
+pub mod NotesLaws
 pub mod KindLaws

@@ -85,3 +85,4 @@ pub record Ready (j : Job) (k : ℕ) (flags tocodes toglyphs : List ℕ) : Type 
   pub kept-few : length (j .kept) ≤ keptMax
   pub kept-low : CodePoints (j .kept)
   pub requested-rises : Rising (j .requested)
+  pub kept-flags : length (j .kept) ≤ length flags

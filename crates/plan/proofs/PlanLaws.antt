@@ -5,15 +5,19 @@ use mathlib.Core.List.{List, [], _∷_}
 use native.Mathlib.Numerals.{add-one}
 use native.Mathlib.Omega.{arith}
 use lib.ListN.{length, getD, set, replicate, length-set}
+use Rattle.source.specs.Header.{recordCount}
 use Rattle.records.proofs.RecordsLaws.{placed}
 use Rattle.covering.specs.Covered.{Rooms}
-use Rattle.listing.specs.Job.{Job, glyphCount}
+use Rattle.listing.specs.Job.{Job, job, glyphCount}
 use Rattle.outcomes.specs.declared.Outcome.{Outcome}
 use Rattle.outcomes.specs.declared.Outcome.the-variants.{NotRetained}
 use Rattle.outcomes.specs.Outcomes.{Short, Small}
 use Rattle.fresh.specs.Fresh.{Ready}
+use Rattle.fresh.specs.Notes.{Fronted, Notebook}
 use Rattle.plan.specs.Plan.{outcomeOf, outcomes, plan, Prepared}
+use Rattle.plan.specs.Notes.{Stays, Endings}
 use Rattle.plan.specs.Earlier.{Earlier}
+use Rattle.plan.proofs.NotesLaws.{endings-start, endings-on}
 
 -- ---- what is asked for each record
 
@@ -31,6 +35,7 @@ module _ (j : Job) (m : ℕ) (fs os tocs togs : List ℕ) (p : Prepared j m fs o
     kept-few = p .kept-few;
     kept-low = p .kept-low;
     requested-rises = p .requested-rises;
+    kept-flags = p .kept-flags;
   }
 
   pub rooms : (k : ℕ) → k < m → Rooms (j .source) m k (glyphCount j) (j .kept) fs os
@@ -79,56 +84,89 @@ short-set (x ∷ os) (suc k) (suc i) o s b = short-set os k i o s b
 
 -- ---- the walk
 
-pub record Planning (j : Job) (m : ℕ) (fs ot tocs togs : List ℕ) (os : List Outcome) (k : ℕ) : Type 0 where
+pub record Planning (j : Job) (m : ℕ) (fs ot tocs togs ns es : List ℕ) (os : List Outcome) (k : ℕ) : Type 0 where
   pub prepared : Prepared j m fs ot tocs togs
   pub within : k ≤ m
   pub row : os ≡ outcomes j k
   pub small : Small os
+  pub fronted : Fronted (j .source) (glyphCount j) (j .codes) (j .glyphs) ns
+  pub tables : 1024 ≤ length es
+  pub endings : Endings j os k es
 
-pub planning-start : (j : Job) (m : ℕ) (fs ot tocs togs : List ℕ) → Prepared j m fs ot tocs togs → Planning j m fs ot tocs togs (replicate 64 NotRetained) 0
-unfolding outcomes
-planning-start j m fs ot tocs togs p = record {
-  prepared = p;
-  within = omega arith;
-  row = refl;
-  small = record { all = refl; each = short-none 64 };
-}
+module _ (xs cs gs kept map requested : List ℕ) where
+  abbrev given-job : Job
+  given-job = job xs cs gs kept map requested
 
-module _ (j : Job) (m : ℕ) (fs ot tocs togs : List ℕ) (os : List Outcome) (k : ℕ) (l : Planning j m fs ot tocs togs os k) where
-  pub planning-on : (o : Outcome) (fs′ ot′ tocs′ togs′ : List ℕ) → k < m → o ≡ outcomeOf j os k → Short o
-      → length fs′ ≡ length fs → length ot′ ≡ length ot → length tocs′ ≡ length tocs → length togs′ ≡ length togs
-      → Planning j m fs′ ot′ tocs′ togs′ (set os k o) (k + 1)
+  pub planning-start : (m : ℕ) (fs ot tocs togs ns es : List ℕ) → Prepared given-job m fs ot tocs togs → Fronted xs (length map) cs gs ns → 1024 ≤ length es
+      → Planning given-job m fs ot tocs togs ns es (replicate 64 NotRetained) 0
   unfolding outcomes
-  planning-on o fs′ ot′ tocs′ togs′ h e s a b c d = record {
-    prepared = prepared-again j m fs ot tocs togs (l .prepared) fs′ ot′ tocs′ togs′ a b c d;
+  planning-start m fs ot tocs togs ns es p f t = record {
+    prepared = p;
     within = omega arith;
-    row = rw (add-one k, ← l .row, e);
-    small = record { all = length-set os k o ∙ l .small .all; each = λ i. short-set os k i o s (l .small .each i) };
+    row = refl;
+    small = record { all = refl; each = short-none 64 };
+    fronted = f;
+    tables = t;
+    endings = endings-start given-job (replicate 64 NotRetained) es;
   }
 
-  pub planning-done : m ≤ k → os ≡ plan j
-  unfolding plan
-  planning-done h =
-      let e : k ≡ m = omega (arith, l .within) in
-      l .row ∙ ap (outcomes j) (e ∙ l .prepared .counted .is)
+  module _ (m : ℕ) (fs ot tocs togs ns es : List ℕ) (os : List Outcome) (k : ℕ) (l : Planning given-job m fs ot tocs togs ns es os k) where
+    pub planning-on : (o : Outcome) (fs′ ot′ tocs′ togs′ ns′ es′ : List ℕ) → k < m → o ≡ outcomeOf given-job os k → Short o
+        → length fs′ ≡ length fs → length ot′ ≡ length ot → length tocs′ ≡ length tocs → length togs′ ≡ length togs → length es′ ≡ length es
+        → Fronted xs (length map) cs gs ns′ → Stays given-job os k o es es′
+        → Planning given-job m fs′ ot′ tocs′ togs′ ns′ es′ (set os k o) (k + 1)
+    unfolding outcomes
+    planning-on o fs′ ot′ tocs′ togs′ ns′ es′ h e s a b c d i f w = record {
+      prepared = prepared-again given-job m fs ot tocs togs (l .prepared) fs′ ot′ tocs′ togs′ a b c d;
+      within = omega arith;
+      row = rw (add-one k, ← l .row, e);
+      small = record { all = length-set os k o ∙ l .small .all; each = λ i. short-set os k i o s (l .small .each i) };
+      fronted = f;
+      tables = omega (arith, l .tables, i);
+      endings = endings-on given-job os k o es es′ (omega (arith, l .small .all, l .prepared .few-records)) (l .endings) w;
+    }
 
-  pub planning-ready : k < m → Ready j k fs tocs togs
-  planning-ready h = ready j m fs ot tocs togs (l .prepared) k h
+    done : m ≤ k → k ≡ recordCount xs
+    done h = omega (arith, l .within, l .prepared .counted .is)
 
-  pub planning-rooms : k < m → Rooms (j .source) m k (glyphCount j) (j .kept) fs ot
-  planning-rooms h = rooms j m fs ot tocs togs (l .prepared) k h
+    pub planning-done : m ≤ k → os ≡ plan given-job
+    unfolding plan
+    planning-done h = l .row ∙ ap (outcomes given-job) (done h)
 
-  pub planning-earlier : k < m → Earlier j os k
-  planning-earlier h = record { inside = omega (arith, l .prepared .few-records); row = l .row; small = l .small }
+    pub planning-ended : m ≤ k → Endings given-job os (recordCount xs) es
+    planning-ended h = rw (done h) at (l .endings)
 
-  pub planning-inside : k < m → k < 64
-  planning-inside h = omega (arith, l .prepared .few-records)
+    pub planning-fronted : Fronted xs (length map) cs gs ns
+    planning-fronted = l .fronted
 
-pub ruleset planning = (planning-start, planning-on, planning-done, planning-ready, planning-rooms, planning-earlier, planning-inside)
+    pub planning-ready : k < m → Ready given-job k fs tocs togs
+    planning-ready h = ready given-job m fs ot tocs togs (l .prepared) k h
+
+    pub planning-rooms : k < m → Rooms xs m k (length map) kept fs ot
+    planning-rooms h = rooms given-job m fs ot tocs togs (l .prepared) k h
+
+    pub planning-earlier : k < m → Earlier given-job os k
+    planning-earlier h = record { inside = omega (arith, l .prepared .few-records); row = l .row; small = l .small }
+
+    pub planning-notebook : k < m → Notebook given-job k ot ns es
+    planning-notebook h = record {
+      inside = omega (arith, l .prepared .few-records);
+      kept-others = l .prepared .kept-others;
+      fronted = l .fronted;
+      tables = l .tables;
+    }
+
+    pub planning-inside : k < m → k < 64
+    planning-inside h = omega (arith, l .prepared .few-records)
+
+pub ruleset planning =
+    (planning-start, planning-on, planning-done, planning-ended, planning-fronted, planning-ready, planning-rooms, planning-earlier, planning-notebook, planning-inside)
 
 -- the work room keeps its lengths
-pub record Kept (fs₀ ot₀ tocs₀ togs₀ fs ot tocs togs : List ℕ) : Type 0 where
+pub record Kept (fs₀ ot₀ tocs₀ togs₀ ns₀ es₀ fs ot tocs togs ns es : List ℕ) : Type 0 where
   pub flags : length fs ≡ length fs₀
   pub others : length ot ≡ length ot₀
   pub codes : length tocs ≡ length tocs₀
   pub glyphs : length togs ≡ length togs₀
+  pub fronts : length ns ≡ length ns₀
+  pub ends : length es ≡ length es₀

@@ -2,13 +2,17 @@
 use outcomes::Outcome;
 ghost use mathlib.Core.Path.{_≡_};
 ghost use mathlib.Core.Bool.{true};
+ghost use Prim.Native.Nat.{_≤_};
 ghost use lib.ListN.{length};
 ghost use Rattle.covering.specs.Covered.{covered, Rooms};
 ghost use Rattle.listing.specs.Job.{job};
+ghost use Rattle.source.specs.Header.{recordCount};
 ghost use Rattle.records.specs.Records.{retained};
 ghost use Rattle.outcomes.specs.Outcomes.{Short, Small};
 ghost use Rattle.fresh.specs.Fresh.{fresh, Ready};
+ghost use Rattle.fresh.specs.Notes.{Fronted, Turned, Notebook};
 ghost use Rattle.plan.specs.Plan.{retainedOutcome, outcomeOf, plan, Prepared};
+ghost use Rattle.plan.specs.Notes.{Stays, Endings};
 ghost use Rattle.plan.specs.Earlier.{Earlier, Tells};
 
 // Whether record k is covered; where an earlier record is of its pair and offset, that one tells.
@@ -42,14 +46,20 @@ fn unserved_outcome(
     map: &[u16],
     requested: &[u16],
     flags: &mut [u8],
+    others: &mut [u8],
     tocodes: &mut [u32],
     toglyphs: &mut [u16],
+    fronts: &mut [usize],
+    ends: &mut [usize],
     os: [Outcome; 64],
     k: usize,
 ) -> Outcome
     requires { ⌜ Earlier (job (now s) (now codes) (now glyphs) (now kept) (now map) (now requested)) os k ⌝ }
     requires { ⌜ Ready (job (now s) (now codes) (now glyphs) (now kept) (now map) (now requested)) k (now flags) (now tocodes) (now toglyphs) ⌝ }
+    requires { ⌜ Notebook (job (now s) (now codes) (now glyphs) (now kept) (now map) (now requested)) k (now others) (now fronts) (now ends) ⌝ }
     ensures { λ r. ⌜ (r ≡ fresh (job (now (s .entry)) (now (codes .entry)) (now (glyphs .entry)) (now (kept .entry)) (now (map .entry)) (now (requested .entry))) k) × Short r ⌝ }
+    ensures { λ _. ⌜ Fronted (now (s .entry)) (length (now (map .entry))) (now (codes .entry)) (now (glyphs .entry)) (now (fronts .exit)) ⌝ }
+    ensures { λ r. ⌜ Turned (job (now (s .entry)) (now (codes .entry)) (now (glyphs .entry)) (now (kept .entry)) (now (map .entry)) (now (requested .entry))) k r (now (ends .entry)) (now (ends .exit)) ⌝ }
 {
     let r = outcomes::spent(s, os, k);
     if r < k {
@@ -63,8 +73,11 @@ fn unserved_outcome(
         map,
         requested,
         flags,
+        others,
         tocodes,
         toglyphs,
+        fronts,
+        ends,
         k,
     )
 }
@@ -81,6 +94,8 @@ fn retained_outcome(
     others: &mut [u8],
     tocodes: &mut [u32],
     toglyphs: &mut [u16],
+    fronts: &mut [usize],
+    ends: &mut [usize],
     os: [Outcome; 64],
     k: usize,
 ) -> Outcome
@@ -88,7 +103,10 @@ fn retained_outcome(
     requires { ⌜ Ready (job (now s) (now codes) (now glyphs) (now kept) (now map) (now requested)) k (now flags) (now tocodes) (now toglyphs) ⌝ }
     requires { ⌜ Rooms (now s) m k (length (now map)) (now kept) (now flags) (now others) ⌝ }
     requires { ⌜ retained (now s) k ≡ true ⌝ }
+    requires { ⌜ Notebook (job (now s) (now codes) (now glyphs) (now kept) (now map) (now requested)) k (now others) (now fronts) (now ends) ⌝ }
     ensures { λ r. ⌜ (r ≡ retainedOutcome (job (now (s .entry)) (now (codes .entry)) (now (glyphs .entry)) (now (kept .entry)) (now (map .entry)) (now (requested .entry))) os k) × Short r ⌝ }
+    ensures { λ _. ⌜ Fronted (now (s .entry)) (length (now (map .entry))) (now (codes .entry)) (now (glyphs .entry)) (now (fronts .exit)) ⌝ }
+    ensures { λ r. ⌜ Stays (job (now (s .entry)) (now (codes .entry)) (now (glyphs .entry)) (now (kept .entry)) (now (map .entry)) (now (requested .entry))) os k r (now (ends .entry)) (now (ends .exit)) ⌝ }
 {
     let n = map.len() as u32;
     if is_dropped(s, m, k, n, kept, flags, others, os) {
@@ -106,8 +124,11 @@ fn retained_outcome(
         map,
         requested,
         flags,
+        others,
         tocodes,
         toglyphs,
+        fronts,
+        ends,
         os,
         k,
     )
@@ -126,13 +147,18 @@ fn outcome_of(
     others: &mut [u8],
     tocodes: &mut [u32],
     toglyphs: &mut [u16],
+    fronts: &mut [usize],
+    ends: &mut [usize],
     os: [Outcome; 64],
     k: usize,
 ) -> Outcome
     requires { ⌜ Earlier (job (now s) (now codes) (now glyphs) (now kept) (now map) (now requested)) os k ⌝ }
     requires { ⌜ Ready (job (now s) (now codes) (now glyphs) (now kept) (now map) (now requested)) k (now flags) (now tocodes) (now toglyphs) ⌝ }
     requires { ⌜ Rooms (now s) m k (length (now map)) (now kept) (now flags) (now others) ⌝ }
+    requires { ⌜ Notebook (job (now s) (now codes) (now glyphs) (now kept) (now map) (now requested)) k (now others) (now fronts) (now ends) ⌝ }
     ensures { λ r. ⌜ (r ≡ outcomeOf (job (now (s .entry)) (now (codes .entry)) (now (glyphs .entry)) (now (kept .entry)) (now (map .entry)) (now (requested .entry))) os k) × Short r ⌝ }
+    ensures { λ _. ⌜ Fronted (now (s .entry)) (length (now (map .entry))) (now (codes .entry)) (now (glyphs .entry)) (now (fronts .exit)) ⌝ }
+    ensures { λ r. ⌜ Stays (job (now (s .entry)) (now (codes .entry)) (now (glyphs .entry)) (now (kept .entry)) (now (map .entry)) (now (requested .entry))) os k r (now (ends .entry)) (now (ends .exit)) ⌝ }
 {
     if records::retain_encoding_record_for_subset(s, k) {
         return retained_outcome(
@@ -147,6 +173,8 @@ fn outcome_of(
             others,
             tocodes,
             toglyphs,
+            fronts,
+            ends,
             os,
             k,
         );
@@ -167,9 +195,15 @@ pub fn plan(
     others: &mut [u8],
     tocodes: &mut [u32],
     toglyphs: &mut [u16],
+    fronts: &mut [usize],
+    ends: &mut [usize],
 ) -> [Outcome; 64]
     requires { ⌜ Prepared (job (now s) (now codes) (now glyphs) (now kept) (now map) (now requested)) m (now flags) (now others) (now tocodes) (now toglyphs) ⌝ }
+    requires { ⌜ Fronted (now s) (length (now map)) (now codes) (now glyphs) (now fronts) ⌝ }
+    requires { ⌜ 1024 ≤ length (now ends) ⌝ }
     ensures { λ r. ⌜ (r ≡ plan (job (now (s .entry)) (now (codes .entry)) (now (glyphs .entry)) (now (kept .entry)) (now (map .entry)) (now (requested .entry)))) × Small r ⌝ }
+    ensures { λ _. ⌜ Fronted (now (s .entry)) (length (now (map .entry))) (now (codes .entry)) (now (glyphs .entry)) (now (fronts .exit)) ⌝ }
+    ensures { λ r. ⌜ Endings (job (now (s .entry)) (now (codes .entry)) (now (glyphs .entry)) (now (kept .entry)) (now (map .entry)) (now (requested .entry))) r (recordCount (now (s .entry))) (now (ends .exit)) ⌝ }
 {
     let mut os = [Outcome::NotRetained; 64];
     let mut k = 0;
@@ -186,6 +220,8 @@ pub fn plan(
             others,
             tocodes,
             toglyphs,
+            fronts,
+            ends,
             os,
             k,
         );

@@ -7,12 +7,12 @@ use Rattle.plan.proofs.plan.Statement.{statement}
 use Rattle.plan.proofs.plan.Tie as tie
 
 abbrev Inv-loop : tie.InvT-loop
-Inv-loop s m codes glyphs kept map requested flags₀ others₀ tocodes₀ toglyphs₀ os₀ k₀ flags others tocodes toglyphs os k =
-    Planning (job s codes glyphs kept map requested) m flags others tocodes toglyphs os k
-    × Kept flags₀ others₀ tocodes₀ toglyphs₀ flags others tocodes toglyphs
+Inv-loop s m codes glyphs kept map requested flags₀ others₀ tocodes₀ toglyphs₀ fronts₀ ends₀ os₀ k₀ flags others tocodes toglyphs fronts ends os k =
+    Planning (job s codes glyphs kept map requested) m flags others tocodes toglyphs fronts ends os k
+    × Kept flags₀ others₀ tocodes₀ toglyphs₀ fronts₀ ends₀ flags others tocodes toglyphs fronts ends
 
 abbrev μ-loop : tie.MeasureT-loop
-μ-loop s m codes glyphs kept map requested flags₀ others₀ tocodes₀ toglyphs₀ os₀ k₀ flags others tocodes toglyphs os k =
+μ-loop s m codes glyphs kept map requested flags₀ others₀ tocodes₀ toglyphs₀ fronts₀ ends₀ os₀ k₀ flags others tocodes toglyphs fronts ends os k =
     m - k
 
 loop-holds : tie.Need-loop-holds Inv-loop μ-loop
