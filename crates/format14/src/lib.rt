@@ -46,7 +46,6 @@ fn lay_out(
 {
     let mut lengths = [0usize; 1024];
     let mut sums = [0u64; 1024];
-    let mut sources = [0usize; 1024];
     let refused = measuring::measure(
         s,
         at,
@@ -57,7 +56,6 @@ fn lay_out(
         flags,
         &mut lengths,
         &mut sums,
-        &mut sources,
         m,
     );
     let tail = placing::place_tables(

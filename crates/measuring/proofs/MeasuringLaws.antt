@@ -147,8 +147,8 @@ module _ (xs : List ℕ) (at len : ℕ) (kept : List ℕ) (ps : List ℕ) where
   pub sources-start : Sources xs at len kept 0 ps
   sources-start = record { room = omega arith; each = λ j l. absurd (omega arith) }
 
-  pub sources-on : (t off : ℕ) → Sources xs at len kept t ps → t < length ps → Source xs at len kept t off → Sources xs at len kept (t + 1) (set ps t off)
-  sources-on t off q h s = record { room = rw length-set (omega arith); each = set-each (Source xs at len kept) ps t off h (q .each) s }
+  pub sources-on : (t m size off : ℕ) → Sources xs at len kept t ps → t < m → m ≤ size → length ps ≡ size → Source xs at len kept t off → Sources xs at len kept (t + 1) (set ps t off)
+  sources-on t m size off q h l e s = record { room = rw length-set (omega arith); each = set-each (Source xs at len kept) ps t off (omega arith) (q .each) s }
 
 -- all tables are asked
 pub refused-all : (xs : List ℕ) (at len : ℕ) (kept map requested flags others : List ℕ) (m t : ℕ) (b : Bool) (ls ss : List ℕ) → All xs at kept flags m others

@@ -81,7 +81,7 @@ fn measure_one(
 }
 
 // The lengths and checksums of the m new tables, and refusal 8: whether some kept selector record has a mapping to be kept that names a missing
-// glyph. The flags are work room, and the sources' places a row for this walk.
+// glyph. The flags are work room.
 pub fn measure(
     s: &[u8],
     at: usize,
@@ -92,16 +92,16 @@ pub fn measure(
     flags: &mut [u8],
     lengths: &mut [usize],
     sums: &mut [u64],
-    sources: &mut [usize],
     m: usize,
 ) -> bool
     requires { ⌜ Readable (now s) at len (now kept) (now requested) ⌝ }
     requires { ⌜ All (now s) at (now kept) (now flags) m (now flags) ⌝ }
-    requires { ⌜ (m ≤ length (now lengths)) × ((m ≤ length (now sums)) × (m ≤ length (now sources))) ⌝ }
+    requires { ⌜ (m ≤ length (now lengths)) × (m ≤ length (now sums)) ⌝ }
     ensures { λ r. ⌜ r ≡ refused8 (given (now (s .entry)) at len (now (kept .entry)) (now (map .entry)) (now (requested .entry))) ⌝ }
     ensures { λ _. ⌜ Lengths (slot (given (now (s .entry)) at len (now (kept .entry)) (now (map .entry)) (now (requested .entry)))) m (now (lengths .exit)) ⌝ }
     ensures { λ _. ⌜ Sums (slot (given (now (s .entry)) at len (now (kept .entry)) (now (map .entry)) (now (requested .entry)))) m (now (sums .exit)) ⌝ }
 {
+    let mut sources = [0usize; 1024];
     let mut t = 0;
     let mut refused = false;
     while t < m {
@@ -116,7 +116,7 @@ pub fn measure(
             flags,
             lengths,
             sums,
-            sources,
+            &sources,
             t,
             off,
             refused,

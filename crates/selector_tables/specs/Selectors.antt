@@ -55,6 +55,7 @@ nonDefaultTable g k =
     pick (countsNonDefault (g .source) (g .start) (g .size) (nonDefaultOffset g k))
     (newNonDefault (g .source) (g .start + nonDefaultOffset g k) (g .kept) (g .glyphs) (g .requested)) []
 
+-- whether a table is there
 abbrev pub there : List ℕ → Bool
 there [] = false
 there (b ∷ bs) = true
@@ -65,7 +66,7 @@ one t = pick (there t) (t ∷ []) []
 
 -- ---- refusal 8
 
--- for record k: its non-default table counts and has a mapping to be kept that names a missing glyph
+-- refusal 8 for record k: its non-default table counts and has a mapping to be kept that names a missing glyph
 unfoldable pub badRecord : Given → ℕ → Bool
 badRecord g k =
     both (countsNonDefault (g .source) (g .start) (g .size) (nonDefaultOffset g k))

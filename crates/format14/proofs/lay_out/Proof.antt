@@ -10,11 +10,8 @@ slice-aggregate-measure c = search needs
 slice-aggregate-measure-2 : tie.Need-slice-aggregate-measure-2
 slice-aggregate-measure-2 c = search needs
 
-slice-aggregate-measure-3 : tie.Need-slice-aggregate-measure-3
-slice-aggregate-measure-3 c = search needs
-
 measure-requires : tie.Need-measure-requires
-measure-requires c κs = (search needs, (omega arith, (omega arith, (omega arith, omega arith))))
+measure-requires c κs = (search needs, (omega arith, (omega arith, omega arith)))
 
 slice-aggregate-place-tables : tie.Need-slice-aggregate-place-tables
 slice-aggregate-place-tables c = search needs
@@ -43,7 +40,6 @@ lay-out-spec =
     (tie.spec
     slice-aggregate-measure
     slice-aggregate-measure-2
-    slice-aggregate-measure-3
     measure-requires
     slice-aggregate-place-tables
     slice-aggregate-place-tables-2
