@@ -58,7 +58,7 @@ fn conclude(
         return Answer::Refused(late);
     }
     let count = layout::count_written(os);
-    let needed = writing::result_length(os, count);
+    let needed = record_writer::result_length(os, count);
     if out.len() < needed {
         return Answer::NoRoom(needed);
     }
@@ -106,7 +106,7 @@ fn written_at(os: [Outcome; 64], k: usize) -> FateKind
     ensures { λ r. ⌜ r ≡ WrittenAt (offsetOf os k) ⌝ }
 {
     let count = layout::count_written(os);
-    FateKind::WrittenAt(writing::offset_of(os, k, count))
+    FateKind::WrittenAt(record_writer::offset_of(os, k, count))
 }
 
 // What became of record k, of which the plan says o.

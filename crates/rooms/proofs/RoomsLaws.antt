@@ -16,7 +16,8 @@ use Rattle.result.specs.Result.{written}
 use Rattle.result.specs.Refusal.{earlyRefusal}
 use Rattle.result.proofs.RefusalLaws.{early-passed}
 use Rattle.refusing.proofs.RefusingLaws.{early-prepared}
-use Rattle.writing.specs.Writing.{Counts, Planned as Written}
+use Rattle.record_writer.specs.Counts.{Counts}
+use Rattle.writing.specs.Writing.{Planned as Written}
 use Rattle.rooms.specs.Rooms.{Passing, Planned, Few}
 
 -- ---- by the job

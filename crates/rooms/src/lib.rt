@@ -11,7 +11,7 @@ ghost use Rattle.listing.specs.Job.{job};
 ghost use Rattle.outcomes.specs.Outcomes.{Small};
 ghost use Rattle.plan.specs.Plan.{plan};
 ghost use Rattle.result.specs.Result.{resultLength, resultOf};
-ghost use Rattle.writing.specs.Writing.{Counts};
+ghost use Rattle.record_writer.specs.Counts.{Counts};
 ghost use Rattle.rooms.specs.Rooms.{Passing, Planned, Few};
 
 // Work room that is enough for most jobs, and cleared in no time.

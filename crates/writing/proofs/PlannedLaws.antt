@@ -18,8 +18,8 @@ use Rattle.made.proofs.MadeLaws.{made-length}
 use Rattle.made.proofs.PlanLaws.{Making, plan-past, plan-made, plan-served}
 use Rattle.result.specs.Result.{isWritten, makerOf, at, written, resultOf, resultLength}
 use Rattle.outcomes.proofs.SizeLaws.{made-size}
+use Rattle.record_writer.specs.Parts.{Laid}
 use Rattle.writing.specs.Writing.{Planned}
-use Rattle.writing.specs.Parts.{Laid}
 use Rattle.result.proofs.LengthLaws.{length-result}
 
 -- a job is planned, its work room written to

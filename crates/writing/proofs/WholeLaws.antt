@@ -6,20 +6,16 @@ use native.Mathlib.Omega.{arith}
 use lib.ListN.{length}
 use lib.Seq.{sets}
 use Rattle.laws.proofs.SetsLaws.{sets-append}
-use Rattle.number.specs.BigEndian.{enc, put}
+use Rattle.number.specs.BigEndian.{enc}
 use Rattle.number.proofs.BigEndianLaws.{length-enc}
 use Rattle.listing.specs.Job.{Job, job}
 use Rattle.outcomes.specs.declared.Outcome.{Outcome}
 use Rattle.result.specs.Result.{written, tablesStart, recordsFrom, tablesBelow, resultOf, resultLength}
+use Rattle.record_writer.specs.Parts.{sourced, Laid}
 use Rattle.writing.specs.Writing.{Planned}
-use Rattle.writing.specs.Parts.{sourced, Laid}
 use Rattle.result.proofs.LengthLaws.{length-records}
 use Rattle.writing.proofs.PlannedLaws.{laid}
-use Rattle.writing.proofs.RecordsLaws.{records-sourced}
-
-pub header-is : (out mid fin : List ℕ) (count : ℕ) → mid ≡ put 2 out 0 0 → fin ≡ put 2 mid 2 count → fin ≡ sets out 0 (enc 2 0 ++ enc 2 count)
-unfolding put
-header-is out mid fin count a b = rw (b, a, ← sets-append out 0 (enc 2 0) (enc 2 count), length-enc 2 0)
+use Rattle.record_writer.proofs.RecordsLaws.{records-sourced}
 
 module _ (xs cs gs kept map requested : List ℕ) (os : List Outcome) (count : ℕ) (fs tocs togs : List ℕ) where
   abbrev j : Job

@@ -1,19 +1,11 @@
 -- What is asked for to write the result of a plan.
-use Prim.Native.Nat.{ℕ, _≤_}
+use Prim.Native.Nat.{ℕ}
 use mathlib.Core.Path.{_≡_}
 use mathlib.Core.List.{List}
-use Rattle.number.specs.Limits.{recordsMax}
 use Rattle.listing.specs.Job.{Job}
 use Rattle.outcomes.specs.declared.Outcome.{Outcome}
-use Rattle.outcomes.specs.Outcomes.{Small}
 use Rattle.plan.specs.Plan.{plan, Prepared}
-use Rattle.result.specs.Result.{written}
-
--- so many records of a plan are written
-pub record Counts (os : List Outcome) (count : ℕ) : Type 0 where
-  pub small : Small os
-  pub is : count ≡ written os
-  pub few : count ≤ recordsMax
+use Rattle.record_writer.specs.Counts.{Counts}
 
 -- the outcomes are the plan of a job that may be worked on, and so many of its records are written
 -- (what is asked is what planning asks; writing makes no use of the work room `others`)

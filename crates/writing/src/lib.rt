@@ -2,80 +2,14 @@
 use outcomes::Outcome;
 use source::Kind;
 ghost use mathlib.Core.Path.{_≡_};
-ghost use mathlib.Core.List.{_++_};
-ghost use Prim.Native.Nat.{_+_, _*_, _<_, _≤_};
+ghost use Prim.Native.Nat.{_≤_};
 ghost use lib.ListN.{length};
 ghost use lib.Seq.{sets};
-ghost use Rattle.number.specs.BigEndian.{enc};
 ghost use Rattle.listing.specs.Job.{job};
 ghost use Rattle.fresh.specs.Fresh.{tableOf, Ready};
-ghost use Rattle.result.specs.Result.{tablesStart, offsetOf, recordBytes, recordsFrom, tablesBelow, resultOf, resultLength};
-ghost use Rattle.writing.specs.Writing.{Counts, Planned};
-ghost use Rattle.writing.specs.Parts.{sourced, Recorded, Laid, Room};
-
-// Where the table of record k stands, in a result of that many records.
-pub fn offset_of(os: [Outcome; 64], k: usize, count: usize) -> usize
-    requires { ⌜ Counts os count ⌝ }
-    requires { ⌜ k < 64 ⌝ }
-    ensures { λ r. ⌜ r ≡ offsetOf os k ⌝ }
-{
-    4 + 8 * count + layout::sizes_from(os, k + 1)
-}
-
-// The length of the whole result.
-pub fn result_length(os: [Outcome; 64], count: usize) -> usize
-    requires { ⌜ Counts os count ⌝ }
-    ensures { λ r. ⌜ r ≡ resultLength os ⌝ }
-{
-    4 + 8 * count + layout::sizes_from(os, 0)
-}
-
-fn put_numbers(out: &mut [u8], place: usize, platform: u32, encoding: u32, offset: usize)
-    requires { ⌜ place + 8 ≤ length (now out) ⌝ }
-    ensures { λ _. ⌜ now (out .exit) ≡ sets (now (out .entry)) place (enc 2 platform ++ (enc 2 encoding ++ enc 4 offset)) ⌝ }
-{
-    number::put_u16(out, place, platform);
-    number::put_u16(out, place + 2, encoding);
-    number::put_u32(out, place + 4, (offset % 4294967296) as u32);
-}
-
-// Writes record k, with the offset of the table that serves it.
-fn serialize_encoding_record(
-    out: &mut [u8],
-    place: usize,
-    s: &[u8],
-    os: [Outcome; 64],
-    k: usize,
-    count: usize,
-)
-    requires { ⌜ Recorded (now s) os k count ⌝ }
-    requires { ⌜ place + 8 ≤ length (now out) ⌝ }
-    ensures { λ _. ⌜ now (out .exit) ≡ sets (now (out .entry)) place (recordBytes (sourced (now (s .entry))) os k) ⌝ }
-{
-    let record = records::encoding_record(s, k);
-    let maker = layout::maker_of(os[k], k);
-    let offset = offset_of(os, maker, count);
-    put_numbers(out, place, record.platform, record.encoding, offset);
-}
-
-// Writes the records behind the header.
-fn serialize_encoding_records(out: &mut [u8], s: &[u8], os: [Outcome; 64], count: usize)
-    requires { ⌜ Laid (now s) os count ⌝ }
-    requires { ⌜ 4 + 8 * count ≤ length (now out) ⌝ }
-    ensures { λ _. ⌜ now (out .exit) ≡ sets (now (out .entry)) 4 (recordsFrom (sourced (now (s .entry))) os 64 0) ⌝ }
-{
-    let mut place: usize = 4;
-    let mut k = 0;
-    while k < 64 {
-        let i = k;
-        let o = os[k];
-        k += 1;
-        if layout::is_written(o) {
-            serialize_encoding_record(out, place, s, os, i, count);
-            place += 8;
-        }
-    }
-}
+ghost use Rattle.result.specs.Result.{tablesStart, tablesBelow, resultOf, resultLength};
+ghost use Rattle.writing.specs.Writing.{Planned};
+ghost use Rattle.writing.specs.Parts.{Room};
 
 // Writes the table that record k makes; the flags and the last two lists are work room.
 fn write_table(
@@ -185,15 +119,6 @@ fn write_tables(
     }
 }
 
-fn put_header(out: &mut [u8], count: usize)
-    requires { ⌜ 4 ≤ length (now out) ⌝ }
-    requires { ⌜ count ≤ 64 ⌝ }
-    ensures { λ _. ⌜ now (out .exit) ≡ sets (now (out .entry)) 0 (enc 2 0 ++ enc 2 count) ⌝ }
-{
-    number::put_u16(out, 0, 0);
-    number::put_u16(out, 2, count as u32);
-}
-
 // Writes the whole result by a plan; the flags and the last two lists are work room.
 pub fn serialize_cmap(
     out: &mut [u8],
@@ -213,8 +138,8 @@ pub fn serialize_cmap(
     requires { ⌜ resultLength os ≤ length (now out) ⌝ }
     ensures { λ _. ⌜ now (out .exit) ≡ sets (now (out .entry)) 0 (resultOf (job (now (s .entry)) (now (codes .entry)) (now (glyphs .entry)) (now (kept .entry)) (now (map .entry)) (now (requested .entry))) os) ⌝ }
 {
-    put_header(out, count);
-    serialize_encoding_records(out, s, os, count);
+    record_writer::put_header(out, count);
+    record_writer::serialize_encoding_records(out, s, os, count);
     write_tables(
         out,
         s,

@@ -1,8 +1,8 @@
 -- Version 0 and the count.
-use Rattle.writing.proofs.WholeLaws.{header-is}
+use Rattle.record_writer.proofs.RecordsLaws.{header-is}
 use borrow.Author.Needs.{needs}
-use Rattle.writing.proofs.put_header.Statement.{statement}
-use Rattle.writing.proofs.put_header.Tie as tie
+use Rattle.record_writer.proofs.put_header.Statement.{statement}
+use Rattle.record_writer.proofs.put_header.Tie as tie
 
 put-u16-requires : tie.Need-put-u16-requires
 put-u16-requires c κs = search needs

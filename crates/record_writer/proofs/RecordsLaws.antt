@@ -1,4 +1,4 @@
--- Records are written one behind the other: what is left of them, written from here, gives them all.
+-- Header and records are written one behind the other: what is left of them, written from here, gives them all.
 use Prim.Native.Nat.{ℕ, zero, suc, _+_, _*_, _-_, _/_, _%_, _^_, _<_, _≤_}
 use mathlib.Core.Path.{_≡_, refl, sym, ap, _∙_}
 use mathlib.Core.List.{List, _++_}
@@ -18,7 +18,13 @@ use Rattle.outcomes.specs.declared.Outcome.{Outcome}
 use Rattle.outcomes.specs.declared.Outcome.the-variants.{NotRetained}
 use Rattle.result.specs.Result.{isWritten, makerOf, at, countFrom, offsetOf, recordBytes, recordsFrom}
 use Rattle.result.proofs.LengthLaws.{length-record}
-use Rattle.writing.specs.Parts.{sourced, Recorded, Laid}
+use Rattle.record_writer.specs.Parts.{sourced, Recorded, Laid}
+
+-- ---- version 0 and the count
+
+pub header-is : (out mid fin : List ℕ) (count : ℕ) → mid ≡ put 2 out 0 0 → fin ≡ put 2 mid 2 count → fin ≡ sets out 0 (enc 2 0 ++ enc 2 count)
+unfolding put
+header-is out mid fin count a b = rw (b, a, ← sets-append out 0 (enc 2 0) (enc 2 count), length-enc 2 0)
 
 -- ---- a record's numbers
 

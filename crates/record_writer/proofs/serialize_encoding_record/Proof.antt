@@ -1,8 +1,8 @@
 -- The source's pair, and where the table of the record's maker stands.
-use Rattle.writing.proofs.RecordsLaws.{recorded}
+use Rattle.record_writer.proofs.RecordsLaws.{recorded}
 use borrow.Author.Needs.{needs}
-use Rattle.writing.proofs.serialize_encoding_record.Statement.{statement}
-use Rattle.writing.proofs.serialize_encoding_record.Tie as tie
+use Rattle.record_writer.proofs.serialize_encoding_record.Statement.{statement}
+use Rattle.record_writer.proofs.serialize_encoding_record.Tie as tie
 
 encoding-record-requires : tie.Need-encoding-record-requires
 encoding-record-requires c κs = search needs

@@ -1,8 +1,8 @@
 -- Three numbers, each behind the one before.
-use Rattle.writing.proofs.RecordsLaws.{numbers-are}
+use Rattle.record_writer.proofs.RecordsLaws.{numbers-are}
 use borrow.Author.Needs.{needs}
-use Rattle.writing.proofs.put_numbers.Statement.{statement}
-use Rattle.writing.proofs.put_numbers.Tie as tie
+use Rattle.record_writer.proofs.put_numbers.Statement.{statement}
+use Rattle.record_writer.proofs.put_numbers.Tie as tie
 
 put-u16-requires : tie.Need-put-u16-requires
 put-u16-requires c κs = search needs

@@ -2,9 +2,9 @@
 use Prim.Native.Nat.{_-_}
 use native.Mathlib.Omega.{arith}
 use borrow.Author.Needs.{needs}
-use Rattle.writing.proofs.RecordsLaws.{Recording, recording, recording-room, recording-asks}
-use Rattle.writing.proofs.serialize_encoding_records.Statement.{statement}
-use Rattle.writing.proofs.serialize_encoding_records.Tie as tie
+use Rattle.record_writer.proofs.RecordsLaws.{Recording, recording, recording-room, recording-asks}
+use Rattle.record_writer.proofs.serialize_encoding_records.Statement.{statement}
+use Rattle.record_writer.proofs.serialize_encoding_records.Tie as tie
 
 abbrev Inv-loop : tie.InvT-loop
 Inv-loop out₀ s count os place₀ k₀ out place k = Recording s os out₀ out place k
