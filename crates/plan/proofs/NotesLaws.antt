@@ -71,10 +71,10 @@ module _ (xs cs gs kept map requested : List ℕ) (os : List Outcome) (k : ℕ) 
   stays-fresh r o before after e h t = record {
     this = t .this;
     others = λ i l m b.
-    ⊎-elim
-    (λ (q : after ≡ before). rw q b)
-    (λ (f : formatOf (leadsTo xs k) ≡ 14). record { is = λ n len q. absurd (alone i n len (omega (arith, e)) l m f q) })
-    (t .others);
+        ⊎-elim
+        (λ (q : after ≡ before). rw q b)
+        (λ (f : formatOf (leadsTo xs k) ≡ 14). record { is = λ n len q. absurd (alone i n len (omega (arith, e)) l m f q) })
+        (t .others);
   }
 
 pub ruleset staying = (turned-spent, stays-none, stays-covered, stays-served, stays-fresh)
@@ -88,13 +88,13 @@ pub endings-on : (j : Job) (os : List Outcome) (k : ℕ) (o : Outcome) (before a
     → Endings j (set os k o) (k + 1) after
 endings-on j os k o before after l e s = record {
   each = λ i h m.
-  by-test (Ended j i after) (eqb i k)
-  (λ t.
-  let same : i ≡ k = eqb-true i k t in
-  rw same (s .this (rw (same, getD-set-same os k o NotRetained l) at m)))
-  (λ t.
-  let kept : getD (set os k o) i NotRetained ≡ getD os i NotRetained = getD-set-other os k i o NotRetained (eqb-false i k t) in
-  let made : isMade (getD os i NotRetained) ≡ true = rw kept at m in
-  let below : i < k = omega (arith, eqb-false i k t) in
-  s .others i below made (e .each i below made));
+      by-test (Ended j i after) (eqb i k)
+      (λ t.
+      let same : i ≡ k = eqb-true i k t in
+      rw same (s .this (rw (same, getD-set-same os k o NotRetained l) at m)))
+      (λ t.
+      let kept : getD (set os k o) i NotRetained ≡ getD os i NotRetained = getD-set-other os k i o NotRetained (eqb-false i k t) in
+      let made : isMade (getD os i NotRetained) ≡ true = rw kept at m in
+      let below : i < k = omega (arith, eqb-false i k t) in
+      s .others i below made (e .each i below made));
 }

@@ -16,8 +16,8 @@ use Rattle.fresh.specs.Fresh.{tableOf, Ready}
 use Rattle.result.specs.Result.{at, sizesFrom, tablesStart, tablesBelow, resultLength}
 use Rattle.result.proofs.CountLaws.{sizes-snoc}
 use Rattle.outcomes.proofs.SizeLaws.{unmade-size}
-use Rattle.writing.specs.Writing.{Planned}
-use Rattle.writing.specs.Parts.{Room}
+use Rattle.writing.specs.Writing.{Planned, Noted}
+use Rattle.writing.specs.Parts.{Room, Known}
 use Rattle.result.proofs.LengthLaws.{size-made}
 use Rattle.writing.proofs.PlannedLaws.{planned-again, ready-of, making-of, lengths}
 
@@ -81,11 +81,17 @@ module _ (j : Job) (os : List Outcome) (count : ℕ) (out₀ fs₀ tocs₀ togs�
       pub tabling-ready : Ready j (k - 1) fs tocs togs
       tabling-ready = ready-of j os count fs tocs togs (l .planned) (k - 1) (making-of j os count fs tocs togs (l .planned) (k - 1) (sym q ∙ e) .inside)
 
-      pub tabling-room : Room j (k - 1) place (length out)
-      tabling-room = record {
-        size = sizeOf (at os (k - 1));
-        is = making-of j os count fs tocs togs (l .planned) (k - 1) (sym q ∙ e) .is;
-        fits = omega (arith, l .room, sizes-down);
+      pub tabling-room : (size : ℕ) → size ≡ sizeOf (getD os (k - 1) NotRetained) → Room j (k - 1) place size (length out)
+      tabling-room size s = record {
+        is = rw s (making-of j os count fs tocs togs (l .planned) (k - 1) (sym q ∙ e) .is);
+        fits = omega (arith, l .room, sizes-down, s);
+      }
+
+      pub tabling-known : (fronts ends : List ℕ) → Noted j os fronts ends → Known j (k - 1) fronts ends
+      tabling-known fronts ends w = record {
+        inside = omega (arith, l .within);
+        fronted = w .fronted;
+        ended = w .endings .each (k - 1) (making-of j os count fs tocs togs (l .planned) (k - 1) (sym q ∙ e) .inside) (sym q ∙ e);
       }
 
       pub tabling-yes : (next fs′ tocs′ togs′ : List ℕ) (size : ℕ) → next ≡ sets out place (tableOf j (k - 1)) → size ≡ sizeOf (getD os (k - 1) NotRetained)
@@ -109,7 +115,7 @@ module _ (j : Job) (os : List Outcome) (count : ℕ) (out₀ fs₀ tocs₀ togs�
             left = rw (w, whole) (sets-append out place table rest ∙ rw (← q, e) at (ap (λ (n : ℕ). sets out place (tablesBelow j os n)) (sym down) ∙ l .left));
           }
 
-pub ruleset tabling = (tabling-start, tabling-end, tabling-no, tabling-ready, tabling-room, tabling-yes)
+pub ruleset tabling = (tabling-start, tabling-end, tabling-no, tabling-ready, tabling-room, tabling-known, tabling-yes)
 
 -- the next place is a number of 64 bits
 pub tabling-low : {j : Job} {os : List Outcome} {count : ℕ} {out₀ fs₀ tocs₀ togs₀ out fs tocs togs : List ℕ} {place k size : ℕ}

@@ -2,9 +2,12 @@
 use Prim.Native.Nat.{ℕ}
 use mathlib.Core.Path.{_≡_}
 use mathlib.Core.List.{List}
-use Rattle.listing.specs.Job.{Job}
+use Rattle.source.specs.Header.{recordCount}
+use Rattle.listing.specs.Job.{Job, glyphCount}
 use Rattle.outcomes.specs.declared.Outcome.{Outcome}
+use Rattle.fresh.specs.Notes.{Fronted}
 use Rattle.plan.specs.Plan.{plan, Prepared}
+use Rattle.plan.specs.Notes.{Endings}
 use Rattle.record_writer.specs.Counts.{Counts}
 
 -- the outcomes are the plan of a job that may be worked on, and so many of its records are written
@@ -15,3 +18,8 @@ pub record Planned (j : Job) (os : List Outcome) (count : ℕ) (flags tocodes to
   pub prepared : Prepared j m flags others tocodes toglyphs
   pub is : os ≡ plan j
   pub counts : Counts os count
+
+-- and this is what planning noted of them
+pub record Noted (j : Job) (os : List Outcome) (fronts ends : List ℕ) : Type 0 where
+  pub fronted : Fronted (j .source) (glyphCount j) (j .codes) (j .glyphs) fronts
+  pub endings : Endings j os (recordCount (j .source)) ends

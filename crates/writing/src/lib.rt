@@ -8,13 +8,14 @@ ghost use lib.Seq.{sets};
 ghost use Rattle.listing.specs.Job.{job};
 ghost use Rattle.fresh.specs.Fresh.{tableOf, Ready};
 ghost use Rattle.result.specs.Result.{tablesStart, tablesBelow, resultOf, resultLength};
-ghost use Rattle.writing.specs.Writing.{Planned};
-ghost use Rattle.writing.specs.Parts.{Room};
+ghost use Rattle.writing.specs.Writing.{Planned, Noted};
+ghost use Rattle.writing.specs.Parts.{Room, Known};
 
-// Writes the table that record k makes; the flags and the last two lists are work room.
+// Writes the table of so many bytes that record k makes, by what planning noted of it; the flags and the two lists after them are work room.
 fn write_table(
     out: &mut [u8],
     place: usize,
+    size: usize,
     s: &[u8],
     codes: &[u32],
     glyphs: &[u16],
@@ -24,13 +25,17 @@ fn write_table(
     flags: &mut [u8],
     tocodes: &mut [u32],
     toglyphs: &mut [u16],
+    fronts: &[usize],
+    ends: &[usize],
     k: usize,
 )
     requires { ⌜ Ready (job (now s) (now codes) (now glyphs) (now kept) (now map) (now requested)) k (now flags) (now tocodes) (now toglyphs) ⌝ }
-    requires { ⌜ Room (job (now s) (now codes) (now glyphs) (now kept) (now map) (now requested)) k place (length (now out)) ⌝ }
+    requires { ⌜ Room (job (now s) (now codes) (now glyphs) (now kept) (now map) (now requested)) k place size (length (now out)) ⌝ }
+    requires { ⌜ Known (job (now s) (now codes) (now glyphs) (now kept) (now map) (now requested)) k (now fronts) (now ends) ⌝ }
     ensures { λ _. ⌜ now (out .exit) ≡ sets (now (out .entry)) place (tableOf (job (now (s .entry)) (now (codes .entry)) (now (glyphs .entry)) (now (kept .entry)) (now (map .entry)) (now (requested .entry))) k) ⌝ }
 {
     let n = map.len() as u32;
+    let front = fronts[k];
     match records::leads_to(s, k) {
         Kind::Format4 {
             language,
@@ -48,6 +53,7 @@ fn write_table(
             flags,
             tocodes,
             toglyphs,
+            front,
         ),
         Kind::Format12 {
             language,
@@ -65,10 +71,23 @@ fn write_table(
             flags,
             tocodes,
             toglyphs,
+            front,
         ),
         Kind::Format14 { records: _, length } => {
             let at = source::offset_of(s, k);
-            format14::serialize(out, place, s, at, length, kept, map, requested)
+            format14::serialize(
+                out,
+                place,
+                s,
+                at,
+                length,
+                kept,
+                map,
+                requested,
+                flags,
+                ends,
+                size,
+            )
         }
         Kind::Unreadable => {}
     }
@@ -86,10 +105,13 @@ fn write_tables(
     flags: &mut [u8],
     tocodes: &mut [u32],
     toglyphs: &mut [u16],
+    fronts: &[usize],
+    ends: &[usize],
     os: [Outcome; 64],
     count: usize,
 )
     requires { ⌜ Planned (job (now s) (now codes) (now glyphs) (now kept) (now map) (now requested)) os count (now flags) (now tocodes) (now toglyphs) ⌝ }
+    requires { ⌜ Noted (job (now s) (now codes) (now glyphs) (now kept) (now map) (now requested)) os (now fronts) (now ends) ⌝ }
     requires { ⌜ resultLength os ≤ length (now out) ⌝ }
     ensures { λ _. ⌜ now (out .exit) ≡ sets (now (out .entry)) (tablesStart os) (tablesBelow (job (now (s .entry)) (now (codes .entry)) (now (glyphs .entry)) (now (kept .entry)) (now (map .entry)) (now (requested .entry))) os 64) ⌝ }
 {
@@ -98,11 +120,13 @@ fn write_tables(
     while 0 < k {
         k -= 1;
         let o = os[k];
-        let next = place + layout::size_of(o);
+        let size = layout::size_of(o);
+        let next = place + size;
         if outcomes::is_made(o) {
             write_table(
                 out,
                 place,
+                size,
                 s,
                 codes,
                 glyphs,
@@ -112,6 +136,8 @@ fn write_tables(
                 flags,
                 tocodes,
                 toglyphs,
+                fronts,
+                ends,
                 k,
             );
             place = next;
@@ -119,7 +145,7 @@ fn write_tables(
     }
 }
 
-// Writes the whole result by a plan; the flags and the last two lists are work room.
+// Writes the whole result by a plan and what it noted; the flags and the two lists after them are work room.
 pub fn serialize_cmap(
     out: &mut [u8],
     s: &[u8],
@@ -131,10 +157,13 @@ pub fn serialize_cmap(
     flags: &mut [u8],
     tocodes: &mut [u32],
     toglyphs: &mut [u16],
+    fronts: &[usize],
+    ends: &[usize],
     os: [Outcome; 64],
     count: usize,
 )
     requires { ⌜ Planned (job (now s) (now codes) (now glyphs) (now kept) (now map) (now requested)) os count (now flags) (now tocodes) (now toglyphs) ⌝ }
+    requires { ⌜ Noted (job (now s) (now codes) (now glyphs) (now kept) (now map) (now requested)) os (now fronts) (now ends) ⌝ }
     requires { ⌜ resultLength os ≤ length (now out) ⌝ }
     ensures { λ _. ⌜ now (out .exit) ≡ sets (now (out .entry)) 0 (resultOf (job (now (s .entry)) (now (codes .entry)) (now (glyphs .entry)) (now (kept .entry)) (now (map .entry)) (now (requested .entry))) os) ⌝ }
 {
@@ -151,6 +180,8 @@ pub fn serialize_cmap(
         flags,
         tocodes,
         toglyphs,
+        fronts,
+        ends,
         os,
         count,
     );

@@ -14,13 +14,13 @@ enum-known-language : tie.Need-enum-known-language
 enum-known-language c = search needs
 
 write4-requires : tie.Need-write4-requires
-write4-requires c κs = (search needs, (search tables, search tables))
+write4-requires c κs = (search needs, (search tables, (search tables, search tables)))
 
 enum-known-language-2 : tie.Need-enum-known-language-2
 enum-known-language-2 c = search needs
 
 write12-requires : tie.Need-write12-requires
-write12-requires c κs = (search needs, search tables)
+write12-requires c κs = (search needs, (search tables, search tables))
 
 enum-known-length : tie.Need-enum-known-length
 enum-known-length c = search needs
@@ -29,7 +29,7 @@ offset-of-requires : tie.Need-offset-of-requires
 offset-of-requires c κs = search needs
 
 serialize-requires : tie.Need-serialize-requires
-serialize-requires c κs = (search tables, search tables)
+serialize-requires c κs = (search tables, (search needs, (search tables, search tables)))
 
 enum-told : tie.Need-enum-told
 enum-told c = search needs

@@ -7,11 +7,11 @@ use Rattle.writing.proofs.write_tables.Statement.{statement}
 use Rattle.writing.proofs.write_tables.Tie as tie
 
 abbrev Inv-loop : tie.InvT-loop
-Inv-loop out₀ s codes glyphs kept map requested flags₀ tocodes₀ toglyphs₀ count os place₀ k₀ out flags tocodes toglyphs place k =
+Inv-loop out₀ s codes glyphs kept map requested flags₀ tocodes₀ toglyphs₀ fronts ends count os place₀ k₀ out flags tocodes toglyphs place k =
     Tabling (job s codes glyphs kept map requested) os count out₀ flags₀ tocodes₀ toglyphs₀ out flags tocodes toglyphs place k
 
 abbrev μ-loop : tie.MeasureT-loop
-μ-loop out₀ s codes glyphs kept map requested flags₀ tocodes₀ toglyphs₀ count os place₀ k₀ out flags tocodes toglyphs place k =
+μ-loop out₀ s codes glyphs kept map requested flags₀ tocodes₀ toglyphs₀ fronts ends count os place₀ k₀ out flags tocodes toglyphs place k =
     k
 
 mul-place : tie.Need-mul-place Inv-loop μ-loop
@@ -44,7 +44,7 @@ is-made-requires c κs = search needs
 write-table-requires : tie.Need-write-table-requires Inv-loop μ-loop
 write-table-requires c κs =
     let l = c .before .before .before .before .before .before .before .before .before .loop .inv in
-    (search (tabling-ready, l), search (tabling-room, l))
+    (search (tabling-ready, l), (search (tabling-room, l), search (tabling-known, l)))
 
 loop-less : tie.Need-loop-less Inv-loop μ-loop
 loop-less c = omega arith
