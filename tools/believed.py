@@ -10,15 +10,15 @@ import sys
 
 # What the promises name: (crate, file, definition).
 ROOTS = [
-    ("cmap", "Cmap", "answerOf"), ("cmap", "Cmap", "outputOf"), ("cmap", "Cmap", "numberOf"),
-    ("cmap", "Cmap", "lengthOf"), ("cmap", "Cmap", "recordsOf"),
-    ("cmap", "Fates", "fateOf"), ("cmap", "Fates", "numberOf"),
+    ("promised", "Cmap", "answerOf"), ("promised", "Cmap", "outputOf"), ("promised", "Cmap", "numberOf"),
+    ("promised", "Cmap", "lengthOf"), ("promised", "Cmap", "recordsOf"),
+    ("promised", "Fates", "fateOf"), ("promised", "Fates", "numberOf"),
     ("heads", "Heads", "oldHead"), ("heads", "Heads", "newHead"), ("heads", "Heads", "numberOf"), ("heads", "Heads", "printedOf"),
     ("answers", "Answers", "oldAnswer"), ("answers", "Answers", "newAnswer"),
-    ("job", "Answered", "answered"), ("job_input", "Job", "parse"),
-    ("crustedlane", "Calls", "subsetOf"), ("crustedlane", "Calls", "recordFateOf"), ("crustedlane", "Calls", "codesAfter"),
-    ("crustedlane", "Calls", "glyphsAfter"), ("crustedlane", "Calls", "outAfter"),
-    ("boundary", "Told", "told"), ("boundary", "Told", "toldFate"), ("boundary", "Told", "toldHead"),
+    ("replies", "Answered", "answered"), ("job_input", "Job", "parse"),
+    ("calls", "Calls", "subsetOf"), ("calls", "Calls", "recordFateOf"), ("calls", "Calls", "codesAfter"),
+    ("calls", "Calls", "glyphsAfter"), ("calls", "Calls", "outAfter"),
+    ("told", "Told", "told"), ("told", "Told", "toldFate"), ("told", "Told", "toldHead"),
 ]
 
 WORD = re.compile(r"[^\s(){}\[\].,;λ∷→×≡]+")

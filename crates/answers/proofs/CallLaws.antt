@@ -16,12 +16,12 @@ use Rattle.outcomes.specs.Outcomes.{isMade}
 use Rattle.plan.specs.Plan.{plan}
 use Rattle.result.specs.Result.{makes, at, offsetOf}
 use Rattle.result.proofs.PlacesLaws.{made-written}
-use Rattle.cmap.specs.declared.Answer.the-variants.{Written}
-use Rattle.cmap.specs.declared.FateKind.the-variants.{WrittenAt}
-use Rattle.cmap.specs.Cmap.{answerOf, outputOf}
-use Rattle.cmap.specs.Fates.{fateOf}
-use Rattle.cmap.proofs.PromiseLaws.{written-passed, written-front}
-use Rattle.cmap.proofs.ReadBackLaws.{written-fate}
+use Rattle.promised.specs.declared.Answer.the-variants.{Written}
+use Rattle.promised.specs.declared.FateKind.the-variants.{WrittenAt}
+use Rattle.promised.specs.Cmap.{answerOf, outputOf}
+use Rattle.promised.specs.Fates.{fateOf}
+use Rattle.promised.proofs.PromiseLaws.{written-passed, written-front}
+use Rattle.promised.proofs.ReadBackLaws.{written-fate}
 use Rattle.answers.specs.Answers.{oldAnswer, newAnswer}
 use Rattle.answers.proofs.AnswersLaws.{maker-self}
 use Rattle.answers.proofs.JobLaws.{old-gives, new-gives}

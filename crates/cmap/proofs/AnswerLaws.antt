@@ -1,16 +1,11 @@
 -- Each way out of the call gives the answer and the output of the job.
-use Prim.Native.Nat.{ℕ, zero, suc, _+_, _<_, _≤_}
+use Prim.Native.Nat.{ℕ, _<_, _≤_}
 use mathlib.Core.Path.{_≡_, refl, sym, ap, _∙_}
-use mathlib.Core.List.{List, [], _∷_, _++_}
-use mathlib.Core.Bool.{Bool, true, false}
+use mathlib.Core.List.{List}
 use native.Mathlib.Omega.{arith}
-use lib.Dec.{ltb, eqb}
-use lib.ListN.{length, drop}
+use lib.ListN.{length}
 use lib.Seq.{sets}
-use borrow.Author.Tests.{eq-eqb, ne-eqb, lt-ltb, le-ltb}
-use Rattle.laws.specs.Choice.{pick}
-use Rattle.laws.specs.Linked.{Each}
-use Rattle.laws.proofs.ChoiceLaws.{by-pick}
+use borrow.Author.Tests.{ne-eqb, lt-ltb, le-ltb}
 use Rattle.laws.proofs.FrontLaws.{sets-front}
 use Rattle.source.proofs.HeaderLaws.{accepted-of}
 use Rattle.listing.specs.Job.{Job}
@@ -19,12 +14,13 @@ use Rattle.plan.specs.Plan.{plan}
 use Rattle.made.proofs.MadeLaws.{made-length}
 use Rattle.made.proofs.PlanLaws.{plan-made}
 use Rattle.result.specs.Result.{written, resultOf, resultLength}
-use Rattle.result.specs.Refusal.{Case, firstOf, refusals, refusalOf, earlyRefusal, lateRefusal, rises}
-use Rattle.result.proofs.RefusalLaws.{early-passed, first-append, first-stays, refusal-early, refusal-late}
+use Rattle.result.specs.Refusal.{refusalOf, earlyRefusal, lateRefusal}
+use Rattle.result.proofs.RefusalLaws.{early-passed, refusal-early, refusal-late}
 use Rattle.result.proofs.LengthLaws.{length-result}
-use Rattle.cmap.specs.declared.Answer.{Answer}
-use Rattle.cmap.specs.declared.Answer.the-variants.{Written, Refused, NoRoom}
-use Rattle.cmap.specs.Cmap.{result, numberIn, answerOf, outputOf}
+use Rattle.promised.specs.declared.Answer.{Answer}
+use Rattle.promised.specs.declared.Answer.the-variants.{Written, Refused, NoRoom}
+use Rattle.promised.specs.Cmap.{result, numberIn, answerOf, outputOf}
+use Rattle.promised.proofs.NumberLaws.{number-refused, number-passed, refusal-low}
 use Rattle.rooms.specs.Rooms.{Passing, Planned}
 
 -- ---- the length of the result
@@ -33,30 +29,6 @@ result-length : (j : Job) → Passing j → length (result j) ≡ resultLength (
 result-length j p =
     let few = accepted-of (j .source) (early-passed j (p .passed) .header) .few in
     length-result j (plan j) (λ k n e. made-length j k n (plan-made j few k n e .is))
-
--- ---- the number
-
-abbrev ten : Job → ℕ → List Case
-ten j room = (10, ltb room (length (result j))) ∷ []
-
-pub number-refused : (j : Job) (room : ℕ) → 0 < refusalOf j → numberIn j room ≡ refusalOf j
-unfolding numberIn refusalOf
-number-refused j room h = first-stays (refusals j) (ten j room) h
-
-pub number-passed : (j : Job) (room : ℕ) → refusalOf j ≡ 0 → numberIn j room ≡ pick (ltb room (length (result j))) 10 0
-unfolding numberIn refusalOf rises
-number-passed j room e = first-append (refusals j) (ten j room) refl e
-
-first-low : (cs : List Case) → Each (λ (c : Case). c .0 < 10) cs → firstOf cs < 10
-first-low [] h = omega arith
-first-low (c ∷ cs) h =
-    by-pick (λ n. n < 10) (c .1) (c .0) (firstOf cs) (λ e. h .0) (λ e. first-low cs (h .1))
-
-refusal-low : (j : Job) → refusalOf j < 10
-unfolding refusalOf
-refusal-low j =
-    first-low (refusals j)
-    (omega arith, (omega arith, (omega arith, (omega arith, (omega arith, (omega arith, (omega arith, (omega arith, (omega arith, tt)))))))))
 
 -- ---- the ways out
 

@@ -1,4 +1,2 @@
 pub mod AnswerLaws
 pub mod FateLaws
-pub mod PromiseLaws
-pub mod ReadBackLaws

@@ -1,13 +1,13 @@
 // What a host links: the two calls over pair records, and the two print heads. Any sizes and any bytes get an answer.
-use boundary::FateAnswer;
-use boundary::HeadAnswer;
-use boundary::SubsetAnswer;
 use pairs::Pair;
+use told::FateAnswer;
+use told::HeadAnswer;
+use told::SubsetAnswer;
 ghost use mathlib.Core.Path.{_≡_};
 ghost use lib.ListN.{length};
 ghost use Rattle.heads.specs.Heads.{oldHead, newHead};
-ghost use Rattle.boundary.specs.Told.{told, toldFate, toldHead};
-ghost use Rattle.crustedlane.specs.Calls.{subsetOf, recordFateOf, codesAfter, glyphsAfter, outAfter};
+ghost use Rattle.told.specs.Told.{told, toldFate, toldHead};
+ghost use Rattle.calls.specs.Calls.{subsetOf, recordFateOf, codesAfter, glyphsAfter, outAfter};
 
 // ---- the print heads
 
@@ -15,14 +15,14 @@ ghost use Rattle.crustedlane.specs.Calls.{subsetOf, recordFateOf, codesA
 pub extern "C" fn cmap_old_head(table: &[u8], c: u32) -> HeadAnswer
     ensures { λ r. ⌜ r ≡ toldHead (oldHead (now (table .entry)) c) ⌝ }
 {
-    boundary::tell_head(heads::old_head(table, c))
+    told::tell_head(heads::old_head(table, c))
 }
 
 #[no_mangle]
 pub extern "C" fn cmap_new_head(table: &[u8], c: u32) -> HeadAnswer
     ensures { λ r. ⌜ r ≡ toldHead (newHead (now (table .entry)) c) ⌝ }
 {
-    boundary::tell_head(heads::new_head(table, c))
+    told::tell_head(heads::new_head(table, c))
 }
 
 // ---- the calls, by hand: whoever holds a slice of records is not covered (tools/entry writes the two proofs)
@@ -44,7 +44,7 @@ pub extern "C" fn cmap_subset(
         × (now (out .exit) ≡ outAfter (now (source .entry)) (now (pairs .entry)) (now (codes .entry)) (now (glyphs .entry)) (now (kept .entry)) (now (map .entry)) (now (requested .entry)) (now (out .entry))) ⌝ }
 {
     let n = pairs.len();
-    if boundary::sizes_broken(
+    if told::sizes_broken(
         source.len(),
         n,
         codes.len(),
@@ -79,7 +79,7 @@ pub extern "C" fn cmap_fate(
         × (now (glyphs .exit) ≡ glyphsAfter (now (source .entry)) (now (pairs .entry)) (now (codes .entry)) (now (glyphs .entry)) (now (kept .entry)) (now (map .entry)) (now (requested .entry))) ⌝ }
 {
     let n = pairs.len();
-    if boundary::sizes_broken(
+    if told::sizes_broken(
         source.len(),
         n,
         codes.len(),

@@ -1,1 +1,1 @@
-pub mod AnsweredLaws
+pub mod LendingLaws

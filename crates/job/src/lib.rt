@@ -1,5 +1,4 @@
 // A job's bytes answered.
-use cmap::Answer;
 use job_input::KEPT_MAX;
 use job_input::Located;
 use job_input::MAP_MAX;
@@ -7,27 +6,17 @@ use job_input::PAIRS_MAX;
 use job_input::Places;
 use job_input::REQUESTED_MAX;
 use job_output::Reply;
+use promised::Answer;
 ghost use mathlib.Core.Path.{_≡_};
 ghost use lib.ListN.{length};
 ghost use Rattle.job_input.specs.Job.{parse, jobAt};
 ghost use Rattle.job_input.specs.Room.{Lent};
 ghost use Rattle.job_output.specs.Output.{written, Parts};
-ghost use Rattle.cmap.specs.Cmap.{answerOf, outputOf};
-ghost use Rattle.job.specs.Answered.{room, answered, replyOf, replyTo, leftBy};
+ghost use Rattle.promised.specs.Cmap.{answerOf, outputOf};
+ghost use Rattle.replies.specs.Answered.{room, answered, replyTo, leftBy};
 
 // One byte more than the longest job: what is longer is damaged, whatever follows (`enough-read`).
 pub const INPUT_ROOM: usize = 81951;
-
-// What an answer is told as.
-fn reply_of(answer: Answer) -> Reply
-    ensures { λ r. ⌜ r ≡ replyOf answer ⌝ }
-{
-    match answer {
-        Answer::Written { bytes, records: _ } => job_output::accept(bytes),
-        Answer::Refused(number) => job_output::refuse(number),
-        Answer::NoRoom(_) => job_output::refuse(10),
-    }
-}
 
 // The lists of the job, lent to the call.
 fn subset_at(
@@ -108,5 +97,5 @@ pub fn answer(bytes: &[u8], out: &mut [u8; 32768]) -> Reply
     let Located::At(places) = located else {
         return job_output::refuse(12);
     };
-    reply_of(subset_from(bytes, places, &codes, &glyphs, &kept, &map, &requested, out))
+    replies::reply_of(subset_from(bytes, places, &codes, &glyphs, &kept, &map, &requested, out))
 }

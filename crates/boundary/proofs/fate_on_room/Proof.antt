@@ -1,5 +1,5 @@
 use Rattle.laws.proofs.TakeLaws.{take-counts}
-use Rattle.boundary.proofs.TellLaws.{telling}
+use Rattle.told.proofs.TellLaws.{telling}
 use borrow.Author.Needs.{needs}
 use Rattle.boundary.proofs.fate_on_room.Statement.{statement}
 use Rattle.boundary.proofs.fate_on_room.Tie as tie

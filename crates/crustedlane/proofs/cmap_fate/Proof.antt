@@ -54,19 +54,19 @@ use Rattle.pairs.specs.Pairs.{codesOf, glyphsOf}
 use Rattle.pairs.proofs.LaidLaws.{laid-first, laid-length}
 use Rattle.pairs.proofs.Relend.{relend, regain}
 use Rattle.pairs.proofs.Pair as T
-use Rattle.boundary.specs.declared.FateAnswer.{FateAnswer}
-use Rattle.crustedlane.specs.Calls.{broken}
-use Rattle.boundary.proofs.SizesLaws.{long}
-use Rattle.cmap.specs.declared.FateKind.the-variants.{Refused}
-use Rattle.cmap.specs.Fates.{fateOf, noFate}
-use Rattle.boundary.specs.Told.{toldFate}
-use Rattle.crustedlane.specs.Calls.{recordFateOf, codesAfter, glyphsAfter}
-use Rattle.boundary.proofs.FateAnswer as An
-use Rattle.boundary.proofs.FateAnswer.Laws as An′
-use Rattle.boundary.proofs.sizes_broken as sizes
-use Rattle.boundary.proofs.sizes_broken.Symbol as sizes-def
-use Rattle.boundary.proofs.sizes_broken.Symbol.{name as #sizes}
-use Rattle.boundary.proofs.sizes_broken.Met as sizes-thm
+use Rattle.told.specs.declared.FateAnswer.{FateAnswer}
+use Rattle.calls.specs.Calls.{broken}
+use Rattle.told.proofs.SizesLaws.{long}
+use Rattle.promised.specs.declared.FateKind.the-variants.{Refused}
+use Rattle.promised.specs.Fates.{fateOf, noFate}
+use Rattle.told.specs.Told.{toldFate}
+use Rattle.calls.specs.Calls.{recordFateOf, codesAfter, glyphsAfter}
+use Rattle.told.proofs.FateAnswer as An
+use Rattle.told.proofs.FateAnswer.Laws as An′
+use Rattle.told.proofs.sizes_broken as sizes
+use Rattle.told.proofs.sizes_broken.Symbol as sizes-def
+use Rattle.told.proofs.sizes_broken.Symbol.{name as #sizes}
+use Rattle.told.proofs.sizes_broken.Met as sizes-thm
 use Rattle.pairs.proofs.copy_pairs as copy-pairs
 use Rattle.pairs.proofs.copy_pairs.Symbol as copy-def
 use Rattle.pairs.proofs.copy_pairs.Symbol.{name as #copy}
@@ -370,6 +370,6 @@ cmap-fate-spec 𝓤 H 𝓜 𝓖 𝓡 =
     entered 𝓤 H (tripleOf 𝓤 H (𝓖 .A) f.signature (f.spec 𝓤 H (𝓖 .A) (𝓜 .mem) (𝓡 .run)))
     (tables 𝓤 H 𝓜 𝓡 code.env .C) (tables 𝓤 H 𝓜 𝓡 code.env .Λ) #crustedlane·cmap-fate code.function (code.unfolded 𝓤 H 𝓜 𝓡)
     (meets 𝓤 H (𝓖 .A) (givenOf 𝓤 H 𝓜 𝓖) (𝓜 .mem) (𝓡 .run) (tablesOf 𝓤 H 𝓜 (tables 𝓤 H 𝓜 𝓡 code.env))
-    (cited 𝓤 H (Sizes 𝓤 H (𝓖 .A) (𝓜 .mem) (𝓡 .run)) 𝓜 𝓡 code.env #sizes sizes-def.routine code.calls-boundary·sizes-broken (sizes-thm.met 𝓤 H 𝓜 𝓖 𝓡))
+    (cited 𝓤 H (Sizes 𝓤 H (𝓖 .A) (𝓜 .mem) (𝓡 .run)) 𝓜 𝓡 code.env #sizes sizes-def.routine code.calls-told·sizes-broken (sizes-thm.met 𝓤 H 𝓜 𝓖 𝓡))
     (cited 𝓤 H (Copy 𝓤 H (𝓖 .A) (𝓜 .mem) (𝓡 .run)) 𝓜 𝓡 code.env #copy copy-def.routine code.calls-pairs·copy-pairs (copy-thm.met 𝓤 H 𝓜 𝓖 𝓡))
     (cited 𝓤 H (Core 𝓤 H (𝓖 .A) (𝓜 .mem) (𝓡 .run)) 𝓜 𝓡 code.env #core core-def.routine code.calls-boundary·fate-on-room (core-thm.met 𝓤 H 𝓜 𝓖 𝓡)))

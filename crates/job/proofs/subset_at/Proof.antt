@@ -1,5 +1,5 @@
 -- The parts that are lent are the job's lists.
-use Rattle.job.proofs.AnsweredLaws.{lending}
+use Rattle.job.proofs.LendingLaws.{lending}
 use borrow.Author.Needs.{needs}
 use Rattle.job.proofs.subset_at.Statement.{statement}
 use Rattle.job.proofs.subset_at.Tie as tie

@@ -1,3 +1,0 @@
-pub mod Cmap
-pub mod Fates
-pub mod Found

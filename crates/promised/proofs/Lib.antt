@@ -1,0 +1,3 @@
+pub mod NumberLaws
+pub mod PromiseLaws
+pub mod ReadBackLaws
