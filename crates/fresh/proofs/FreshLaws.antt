@@ -77,4 +77,5 @@ ready-again j k fs gs tocs togs r e =
       kept-few = r .kept-few;
       kept-low = r .kept-low;
       requested-rises = r .requested-rises;
+      kept-flags = omega (arith, r .kept-flags);
     }

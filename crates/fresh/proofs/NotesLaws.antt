@@ -29,7 +29,7 @@ module _ (xs : List ℕ) (n : ℕ) (cs gs : List ℕ) where
   pub unknown : (k : ℕ) → Fronts xs n cs gs k 0
   unknown k = record { within = omega arith; is = λ h. absurd (omega arith) }
 
-  none-noted : (m k : ℕ) → getD (replicate m 0) k 0 ≡ 0
+  none-noted : (m k : ℕ) → getD {A = ℕ} (replicate m 0) k 0 ≡ 0
   none-noted zero k = refl
   none-noted (suc m) zero = refl
   none-noted (suc m) (suc k) = none-noted m k
@@ -50,7 +50,7 @@ pub ruleset fronting = (fronted-none, fronted-on)
 
 -- ---- the ends of a format 14's tables
 
-lengthIn : Kind → ℕ
+abbrev lengthIn : Kind → ℕ
 lengthIn (Format4 language segments len) = len
 lengthIn (Format12 language groups len) = len
 lengthIn (Format14 records len) = len
@@ -61,8 +61,8 @@ module _ (xs cs gs kept map requested : List ℕ) (k : ℕ) (kind : Kind) (q : k
   j = job xs cs gs kept map requested
 
   other-format : (f : ℕ) → formatOf kind ≡ f → (f ≡ 14 → ⊥) → (ends : List ℕ) → Turned j k o ends ends
-  other-format f e no ends = record {
-    this = λ m. record { is = λ n len t. absurd (no (sym e ∙ ap formatOf (q ∙ t))) };
+  other-format f e unlike ends = record {
+    this = λ m. record { is = λ n len t. absurd (unlike (sym e ∙ ap formatOf (q ∙ t))) };
     others = inl refl;
   }
 

@@ -60,7 +60,8 @@ fn fresh4(
 {
     let sized = making::size4(s, k, n, codes, glyphs, flags, tocodes, toglyphs);
     fronts[k] = sized.front;
-    of_size4(sized.size)
+    let size = sized.size;
+    of_size4(size)
 }
 
 fn fresh12(
