@@ -20,7 +20,7 @@ use Rattle.outcomes.specs.declared.Outcome.{Outcome}
 use Rattle.outcomes.specs.declared.Outcome.the-variants.{NotRetained, Skipped, Empty, TooLong, Covered, BadMapping, Served, Made}
 use Rattle.outcomes.specs.Outcomes.{isMade, serves, server}
 use Rattle.outcomes.specs.Twins.{cameToNothing, isSpent, spent}
-use Rattle.fresh.specs.Notes.{Ended, Turned}
+use Rattle.fresh.specs.Notes.{Fronted, Ended, Turned, Notebook}
 use Rattle.plan.specs.Notes.{Stays, Endings}
 
 -- ---- what makes no table notes nothing
@@ -64,7 +64,7 @@ module _ (xs cs gs kept map requested : List ℕ) (os : List Outcome) (k : ℕ) 
   alone : (i n len : ℕ) → k ≤ server xs os k → i < k → isMade (getD os i NotRetained) ≡ true → formatOf (leadsTo xs k) ≡ 14 → leadsTo xs i ≡ Format14 n len → ⊥
   unfolding server serves
   alone i n len h l m f q =
-      let no : serves xs os k i ≡ false = first-none (serves xs os k) k 0 h i (omega arith) (omega arith) in
+      let no : serves xs os k i ≡ false = first-none (serves xs os k) k 0 (omega (arith, h)) i (omega arith) (omega arith) in
       false-true (sym no ∙ rw (m, f, q))
 
   pub stays-fresh : (r : ℕ) (o : Outcome) (before after : List ℕ) → r ≡ server xs os k → k ≤ r → Turned j k o before after → Stays j os k o before after
@@ -77,7 +77,14 @@ module _ (xs cs gs kept map requested : List ℕ) (os : List Outcome) (k : ℕ) 
         (t .others);
   }
 
-pub ruleset staying = (turned-spent, stays-none, stays-covered, stays-served, stays-fresh)
+-- work room that was written to is work room still
+pub notebook-again : (j : Job) (k : ℕ) (ot ot′ ns es : List ℕ) → Notebook j k ot ns es → length ot′ ≡ length ot → Notebook j k ot′ ns es
+notebook-again j k ot ot′ ns es b e = record { inside = b .inside; kept-others = omega (arith, b .kept-others); fronted = b .fronted; tables = b .tables }
+
+pub still-fronted : (xs cs gs kept map requested : List ℕ) (k : ℕ) (ot ns es : List ℕ) → Notebook (job xs cs gs kept map requested) k ot ns es → Fronted xs (length map) cs gs ns
+still-fronted xs cs gs kept map requested k ot ns es b = b .fronted
+
+pub ruleset staying = (still-fronted, turned-spent, stays-none, stays-covered, stays-served, stays-fresh)
 
 -- ---- the walk
 

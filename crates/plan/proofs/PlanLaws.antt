@@ -8,7 +8,7 @@ use lib.ListN.{length, getD, set, replicate, length-set}
 use Rattle.source.specs.Header.{recordCount}
 use Rattle.records.proofs.RecordsLaws.{placed}
 use Rattle.covering.specs.Covered.{Rooms}
-use Rattle.listing.specs.Job.{Job, job, glyphCount}
+use Rattle.listing.specs.Job.{Job, glyphCount}
 use Rattle.outcomes.specs.declared.Outcome.{Outcome}
 use Rattle.outcomes.specs.declared.Outcome.the-variants.{NotRetained}
 use Rattle.outcomes.specs.Outcomes.{Short, Small}
@@ -93,71 +93,67 @@ pub record Planning (j : Job) (m : ℕ) (fs ot tocs togs ns es : List ℕ) (os :
   pub tables : 1024 ≤ length es
   pub endings : Endings j os k es
 
-module _ (xs cs gs kept map requested : List ℕ) where
-  abbrev given-job : Job
-  given-job = job xs cs gs kept map requested
+pub planning-start : (j : Job) (m : ℕ) (fs ot tocs togs ns es : List ℕ) → Prepared j m fs ot tocs togs → Fronted (j .source) (glyphCount j) (j .codes) (j .glyphs) ns
+    → 1024 ≤ length es → Planning j m fs ot tocs togs ns es (replicate 64 NotRetained) 0
+unfolding outcomes
+planning-start j m fs ot tocs togs ns es p f t = record {
+  prepared = p;
+  within = omega arith;
+  row = refl;
+  small = record { all = refl; each = short-none 64 };
+  fronted = f;
+  tables = t;
+  endings = endings-start j (replicate 64 NotRetained) es;
+}
 
-  pub planning-start : (m : ℕ) (fs ot tocs togs ns es : List ℕ) → Prepared given-job m fs ot tocs togs → Fronted xs (length map) cs gs ns → 1024 ≤ length es
-      → Planning given-job m fs ot tocs togs ns es (replicate 64 NotRetained) 0
+module _ (j : Job) (m : ℕ) (fs ot tocs togs ns es : List ℕ) (os : List Outcome) (k : ℕ) (l : Planning j m fs ot tocs togs ns es os k) where
+  pub planning-on : (o : Outcome) (fs′ ot′ tocs′ togs′ ns′ es′ : List ℕ) → k < m → o ≡ outcomeOf j os k → Short o
+      → length fs′ ≡ length fs → length ot′ ≡ length ot → length tocs′ ≡ length tocs → length togs′ ≡ length togs → length es′ ≡ length es
+      → Fronted (j .source) (glyphCount j) (j .codes) (j .glyphs) ns′ → Stays j os k o es es′
+      → Planning j m fs′ ot′ tocs′ togs′ ns′ es′ (set os k o) (k + 1)
   unfolding outcomes
-  planning-start m fs ot tocs togs ns es p f t = record {
-    prepared = p;
+  planning-on o fs′ ot′ tocs′ togs′ ns′ es′ h e s a b c d i f w = record {
+    prepared = prepared-again j m fs ot tocs togs (l .prepared) fs′ ot′ tocs′ togs′ a b c d;
     within = omega arith;
-    row = refl;
-    small = record { all = refl; each = short-none 64 };
+    row = rw (add-one k, ← l .row, e);
+    small = record { all = length-set os k o ∙ l .small .all; each = λ i. short-set os k i o s (l .small .each i) };
     fronted = f;
-    tables = t;
-    endings = endings-start given-job (replicate 64 NotRetained) es;
+    tables = omega (arith, l .tables, i);
+    endings = endings-on j os k o es es′ (omega (arith, l .small .all, l .prepared .few-records)) (l .endings) w;
   }
 
-  module _ (m : ℕ) (fs ot tocs togs ns es : List ℕ) (os : List Outcome) (k : ℕ) (l : Planning given-job m fs ot tocs togs ns es os k) where
-    pub planning-on : (o : Outcome) (fs′ ot′ tocs′ togs′ ns′ es′ : List ℕ) → k < m → o ≡ outcomeOf given-job os k → Short o
-        → length fs′ ≡ length fs → length ot′ ≡ length ot → length tocs′ ≡ length tocs → length togs′ ≡ length togs → length es′ ≡ length es
-        → Fronted xs (length map) cs gs ns′ → Stays given-job os k o es es′
-        → Planning given-job m fs′ ot′ tocs′ togs′ ns′ es′ (set os k o) (k + 1)
-    unfolding outcomes
-    planning-on o fs′ ot′ tocs′ togs′ ns′ es′ h e s a b c d i f w = record {
-      prepared = prepared-again given-job m fs ot tocs togs (l .prepared) fs′ ot′ tocs′ togs′ a b c d;
-      within = omega arith;
-      row = rw (add-one k, ← l .row, e);
-      small = record { all = length-set os k o ∙ l .small .all; each = λ i. short-set os k i o s (l .small .each i) };
-      fronted = f;
-      tables = omega (arith, l .tables, i);
-      endings = endings-on given-job os k o es es′ (omega (arith, l .small .all, l .prepared .few-records)) (l .endings) w;
-    }
+  done : m ≤ k → k ≡ recordCount (j .source)
+  done h = omega (arith, l .within, l .prepared .counted .is)
 
-    done : m ≤ k → k ≡ recordCount xs
-    done h = omega (arith, l .within, l .prepared .counted .is)
+  pub planning-done : m ≤ k → os ≡ plan j
+  unfolding plan
+  planning-done h = l .row ∙ ap (outcomes j) (done h)
 
-    pub planning-done : m ≤ k → os ≡ plan given-job
-    unfolding plan
-    planning-done h = l .row ∙ ap (outcomes given-job) (done h)
+  pub planning-ended : m ≤ k → Endings j os (recordCount (j .source)) es
+  planning-ended h = rw (done h) at (l .endings)
 
-    pub planning-ended : m ≤ k → Endings given-job os (recordCount xs) es
-    planning-ended h = rw (done h) at (l .endings)
+  pub planning-fronted : Fronted (j .source) (glyphCount j) (j .codes) (j .glyphs) ns
+  planning-fronted = l .fronted
 
-    pub planning-fronted : Fronted xs (length map) cs gs ns
-    planning-fronted = l .fronted
+  pub planning-ready : k < m → Ready j k fs tocs togs
+  planning-ready h = ready j m fs ot tocs togs (l .prepared) k h
 
-    pub planning-ready : k < m → Ready given-job k fs tocs togs
-    planning-ready h = ready given-job m fs ot tocs togs (l .prepared) k h
+  pub planning-rooms : k < m → Rooms (j .source) m k (glyphCount j) (j .kept) fs ot
+  planning-rooms h = rooms j m fs ot tocs togs (l .prepared) k h
 
-    pub planning-rooms : k < m → Rooms xs m k (length map) kept fs ot
-    planning-rooms h = rooms given-job m fs ot tocs togs (l .prepared) k h
+  pub planning-earlier : k < m → Earlier j os k
+  planning-earlier h = record { inside = omega (arith, l .prepared .few-records); row = l .row; small = l .small }
 
-    pub planning-earlier : k < m → Earlier given-job os k
-    planning-earlier h = record { inside = omega (arith, l .prepared .few-records); row = l .row; small = l .small }
+  pub planning-notebook : k < m → Notebook j k ot ns es
+  planning-notebook h = record {
+    inside = omega (arith, l .prepared .few-records);
+    kept-others = l .prepared .kept-others;
+    fronted = l .fronted;
+    tables = l .tables;
+  }
 
-    pub planning-notebook : k < m → Notebook given-job k ot ns es
-    planning-notebook h = record {
-      inside = omega (arith, l .prepared .few-records);
-      kept-others = l .prepared .kept-others;
-      fronted = l .fronted;
-      tables = l .tables;
-    }
-
-    pub planning-inside : k < m → k < 64
-    planning-inside h = omega (arith, l .prepared .few-records)
+  pub planning-inside : k < m → k < 64
+  planning-inside h = omega (arith, l .prepared .few-records)
 
 pub ruleset planning =
     (planning-start, planning-on, planning-done, planning-ended, planning-fronted, planning-ready, planning-rooms, planning-earlier, planning-notebook, planning-inside)

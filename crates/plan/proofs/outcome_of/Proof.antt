@@ -1,4 +1,5 @@
 use Rattle.plan.proofs.OutcomeLaws.{outcome-rules}
+use Rattle.plan.proofs.NotesLaws.{staying}
 use borrow.Author.Needs.{needs}
 use Rattle.plan.proofs.outcome_of.Statement.{statement}
 use Rattle.plan.proofs.outcome_of.Tie as tie
@@ -7,7 +8,7 @@ retain-encoding-record-for-subset-requires : tie.Need-retain-encoding-record-for
 retain-encoding-record-for-subset-requires c κs = search needs
 
 retained-outcome-requires : tie.Need-retained-outcome-requires
-retained-outcome-requires c κs = (search needs, (search needs, (search needs, search outcome-rules)))
+retained-outcome-requires c κs = (search needs, (search needs, (search needs, (search outcome-rules, search needs))))
 
 same-length : tie.Need-same-length
 same-length c = search needs
@@ -21,11 +22,17 @@ same-length-3 c = search needs
 same-length-4 : tie.Need-same-length-4
 same-length-4 c = search needs
 
+same-length-5 : tie.Need-same-length-5
+same-length-5 c = search needs
+
+same-length-6 : tie.Need-same-length-6
+same-length-6 c = search needs
+
 returns : tie.Need-returns
-returns c = (search outcome-rules, search needs)
+returns c = ((search outcome-rules, search needs), (search needs, search needs))
 
 returns-2 : tie.Need-returns-2
-returns-2 c = (search outcome-rules, search needs)
+returns-2 c = ((search outcome-rules, search needs), (search needs, search staying))
 
 pub outcome-of-spec : {M : Type 1} → statement M
 outcome-of-spec =
@@ -37,5 +44,7 @@ outcome-of-spec =
     same-length-2
     same-length-3
     same-length-4
+    same-length-5
+    same-length-6
     returns
     returns-2)

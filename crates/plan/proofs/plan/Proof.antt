@@ -19,7 +19,9 @@ loop-holds : tie.Need-loop-holds Inv-loop μ-loop
 loop-holds c = (search planning, search needs)
 
 outcome-of-requires : tie.Need-outcome-of-requires Inv-loop μ-loop
-outcome-of-requires c κs = (search planning, (search planning, search planning))
+outcome-of-requires c κs =
+    let l = c .before .before .before .before .before .before .before .loop .inv .0 in
+    (search (planning, l), (search (planning, l), (search (planning, l), search (planning, l))))
 
 mul-os : tie.Need-mul-os Inv-loop μ-loop
 mul-os c = omega arith
@@ -48,8 +50,14 @@ same-length-3 c = search needs
 same-length-4 : tie.Need-same-length-4 Inv-loop μ-loop
 same-length-4 c = search needs
 
+same-length-5 : tie.Need-same-length-5 Inv-loop μ-loop
+same-length-5 c = search needs
+
+same-length-6 : tie.Need-same-length-6 Inv-loop μ-loop
+same-length-6 c = search needs
+
 returns : tie.Need-returns Inv-loop μ-loop
-returns c = (search planning, search needs)
+returns c = ((search planning, search needs), (search planning, search planning))
 
 pub plan-spec : {M : Type 1} → statement M
 plan-spec =
@@ -68,4 +76,6 @@ plan-spec =
     same-length-2
     same-length-3
     same-length-4
+    same-length-5
+    same-length-6
     returns)

@@ -1,7 +1,8 @@
+use Rattle.plan.proofs.TwinLaws.{twins}
+use Rattle.plan.proofs.NotesLaws.{staying}
 use borrow.Author.Needs.{needs}
 use Rattle.plan.proofs.unserved_outcome.Statement.{statement}
 use Rattle.plan.proofs.unserved_outcome.Tie as tie
-use Rattle.plan.proofs.TwinLaws.{twins}
 
 spent-requires : tie.Need-spent-requires
 spent-requires c κs = search needs
@@ -13,7 +14,7 @@ array-copy-out-result : tie.Need-array-copy-out-result
 array-copy-out-result c = search needs
 
 returns : tie.Need-returns
-returns c = (search twins, search twins)
+returns c = ((search twins, search twins), (search needs, search staying))
 
 fresh-requires : tie.Need-fresh-requires
 fresh-requires c κs = search needs
@@ -26,6 +27,15 @@ same-length-2 c = search needs
 
 same-length-3 : tie.Need-same-length-3
 same-length-3 c = search needs
+
+same-length-4 : tie.Need-same-length-4
+same-length-4 c = search needs
+
+same-length-5 : tie.Need-same-length-5
+same-length-5 c = search needs
+
+same-length-6 : tie.Need-same-length-6
+same-length-6 c = search needs
 
 returns-2 : tie.Need-returns-2
 returns-2 c = search needs
@@ -42,4 +52,7 @@ unserved-outcome-spec =
     same-length
     same-length-2
     same-length-3
+    same-length-4
+    same-length-5
+    same-length-6
     returns-2)
