@@ -33,7 +33,7 @@ fn old_of(s: &[u8], c: u32, n: usize) -> Answer
 {
     let k = first_record(s, 4, n);
     if k < n {
-        return Answer::Glyph(lookup::glyph_of(lookup::lookup4(s, source::offset_of(s, k), c)));
+        return Answer::Glyph(lookup::glyph_of(lookup_at::lookup4(s, source::offset_of(s, k), c)));
     }
     Answer::Refused(11)
 }
@@ -44,7 +44,7 @@ fn new_of(s: &[u8], c: u32, n: usize) -> Answer
 {
     let k = first_record(s, 12, n);
     if k < n {
-        return Answer::Glyph(lookup::glyph_of(lookup::lookup12(s, source::offset_of(s, k), c)));
+        return Answer::Glyph(lookup::glyph_of(lookup_at::lookup12(s, source::offset_of(s, k), c)));
     }
     old_of(s, c, n)
 }

@@ -19,7 +19,8 @@ use Rattle.source.specs.declared.EncodingRecord.{EncodingRecord}
 use Rattle.source.specs.Header.{recordCount, platformOf, encodingOf, offsetOf, recordOf}
 use Rattle.source.specs.Kind.{kindAt}
 use Rattle.records.specs.Records.{leadsTo, isPair, bmpPair, fullPair, retained}
-use Rattle.covering.specs.Covered.{isSibling, firstSibling, reachesAbove, mapAlike, siblingCovers, covered}
+use Rattle.covering.specs.Covered.{reachesAbove, mapAlike, siblingCovers, covered}
+use Rattle.sibling.specs.Sibling.{isSibling, firstSibling}
 use Rattle.listing.specs.Job.{Job, job, glyphCount}
 use Rattle.listing.specs.Listing.{mapsAs, maps, listed}
 use Rattle.format4.specs.Size.{sizeOf as sizeOf4}
