@@ -10,7 +10,7 @@ use Rattle.laws.specs.Pieces.{pieces, concat}
 use Rattle.laws.proofs.ChoiceLaws.{by-leb}
 use Rattle.number.specs.BigEndian.{be, enc, Bytes}
 use Rattle.number.specs.Row.{encs}
-use Rattle.source.specs.Header.{refused5}
+use Rattle.header.specs.Header.{refused5}
 use Rattle.source.specs.Kind.{kindAt}
 use Rattle.records.specs.Records.{leadsTo, bmpPair, fullPair, retained, someRetained}
 use Rattle.marks.specs.Marks.{below, holds}

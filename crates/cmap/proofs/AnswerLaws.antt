@@ -12,7 +12,7 @@ use Rattle.laws.specs.Choice.{pick}
 use Rattle.laws.specs.Linked.{Each}
 use Rattle.laws.proofs.ChoiceLaws.{by-pick}
 use Rattle.laws.proofs.FrontLaws.{sets-front}
-use Rattle.source.proofs.HeaderLaws.{accepted-of}
+use Rattle.header.proofs.HeaderLaws.{accepted-of}
 use Rattle.listing.specs.Job.{Job}
 use Rattle.plan.specs.declared.Outcome.{Outcome}
 use Rattle.plan.specs.Plan.{plan}

@@ -8,7 +8,7 @@ use Rattle.laws.specs.Choice.{both}
 use Rattle.laws.specs.Lists.{Rising}
 use Rattle.laws.specs.Search.{some}
 use Rattle.laws.specs.Select.{select, anyOf, eqList}
-use Rattle.source.specs.Header.{recordCount}
+use Rattle.header.specs.Header.{recordCount}
 use Rattle.records.specs.Records.{leadsToFormat, Counted}
 use Rattle.listing.specs.Listing.{maps}
 use Rattle.sibling.specs.Sibling.{firstSibling}

@@ -15,8 +15,8 @@ use Rattle.laws.proofs.FirstLaws.{first-ext, first-holds}
 use Rattle.laws.proofs.SearchLaws.{Finding, looking-start, looks}
 use Rattle.source.specs.declared.Kind.{Kind}
 use Rattle.source.specs.declared.Kind.the-variants.{Format4, Format12, Format14, Unreadable}
-use Rattle.source.specs.declared.EncodingRecord.{EncodingRecord}
-use Rattle.source.specs.Header.{recordCount, platformOf, encodingOf, offsetOf, recordOf}
+use Rattle.header.specs.declared.EncodingRecord.{EncodingRecord}
+use Rattle.header.specs.Header.{recordCount, platformOf, encodingOf, offsetOf, recordOf}
 use Rattle.source.specs.Kind.{kindAt}
 use Rattle.records.specs.Records.{leadsTo, isPair, bmpPair, fullPair, retained}
 use Rattle.covering.specs.Covered.{reachesAbove, mapAlike, siblingCovers, covered}

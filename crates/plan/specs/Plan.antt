@@ -11,7 +11,7 @@ use Rattle.laws.specs.Search.{first, some}
 use Rattle.number.specs.Limits.{recordsMax, pairsMax, sourceMax, keptMax}
 use Rattle.source.specs.declared.Kind.{Kind}
 use Rattle.source.specs.declared.Kind.the-variants.{Format4, Format12, Format14, Unreadable}
-use Rattle.source.specs.Header.{recordCount, offsetOf}
+use Rattle.header.specs.Header.{recordCount, offsetOf}
 use Rattle.source.specs.Kind.{formatOf}
 use Rattle.records.specs.Records.{leadsTo, leadsToFormat, retained, Placed, Counted}
 use Rattle.listing.specs.Job.{Job, glyphCount}

@@ -8,7 +8,7 @@ use lib.ListN.{getD}
 use Rattle.laws.specs.Choice.{both}
 use Rattle.laws.specs.Search.{first}
 use Rattle.number.specs.Limits.{recordsMax}
-use Rattle.source.specs.Header.{platformOf, encodingOf, offsetOf}
+use Rattle.header.specs.Header.{platformOf, encodingOf, offsetOf}
 use Rattle.records.specs.Records.{isPair, retained}
 use Rattle.listing.specs.Job.{Job}
 use Rattle.covering.specs.Covered.{covered}

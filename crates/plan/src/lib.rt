@@ -122,7 +122,7 @@ fn fresh(
             length: _,
         } => fresh12(s, k, n, codes, glyphs, flags, tocodes, toglyphs),
         Kind::Format14 { records: _, length } => {
-            let at = source::offset_of(s, k);
+            let at = header::offset_of(s, k);
             fresh14(s, at, length, kept, map, requested)
         }
         Kind::Unreadable => Outcome::Skipped,
@@ -225,7 +225,7 @@ fn is_twin(s: &[u8], k: usize, r: usize) -> bool
 {
     let record = records::encoding_record(s, k);
     if records::is_pair(s, r, record.platform, record.encoding) {
-        return source::offset_of(s, r) == record.offset;
+        return header::offset_of(s, r) == record.offset;
     }
     false
 }
@@ -275,7 +275,7 @@ fn is_spent(s: &[u8], os: [Outcome; 64], k: usize, r: usize) -> bool
 {
     let o = os[r];
     if came_to_nothing(o) {
-        return source::offset_of(s, r) == source::offset_of(s, k);
+        return header::offset_of(s, r) == header::offset_of(s, k);
     }
     false
 }

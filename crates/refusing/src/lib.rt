@@ -1,6 +1,6 @@
 // Refusals 1 to 9 in their order: 1 to 7 of what is lent, 8 and 9 of the plan.
+use header::Header;
 use plan::Outcome;
-use source::Header;
 ghost use mathlib.Core.Path.{_≡_};
 ghost use Prim.Native.Nat.{_≤_};
 ghost use Rattle.laws.specs.Choice.{ifEq};
@@ -61,7 +61,7 @@ fn format_refusal(s: &[u8], m: usize) -> u8
 fn source_refusal(s: &[u8]) -> u8
     ensures { λ r. ⌜ r ≡ sourceRefusal (now (s .entry)) ⌝ }
 {
-    match source::header_of(s) {
+    match header::header_of(s) {
         Header::Refused => 5,
         Header::Records(m) => format_refusal(s, m),
     }

@@ -5,7 +5,7 @@ use mathlib.Core.List.{List}
 use mathlib.Core.Bool.{Bool, true, false}
 use lib.Dec.{eqb}
 use Rattle.laws.proofs.SearchLaws.{Finding, looking-start, looks}
-use Rattle.source.specs.Header.{recordCount}
+use Rattle.header.specs.Header.{recordCount}
 use Rattle.source.specs.declared.Kind.{Kind}
 use Rattle.source.specs.declared.Kind.the-variants.{Format4, Format12}
 use Rattle.records.specs.Records.{leadsTo, Counted}

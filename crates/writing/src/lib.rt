@@ -133,7 +133,7 @@ fn write_table(
             toglyphs,
         ),
         Kind::Format14 { records: _, length } => {
-            let at = source::offset_of(s, k);
+            let at = header::offset_of(s, k);
             format14::serialize(out, place, s, at, length, kept, map, requested)
         }
         Kind::Unreadable => {}

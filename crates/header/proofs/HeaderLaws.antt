@@ -9,9 +9,9 @@ use borrow.Author.Tests.{ltb-false, le-ltb, eqb-true, eq-eqb}
 use Rattle.laws.proofs.ChoiceLaws.{by-pick}
 use Rattle.laws.proofs.EitherLaws.{not-false, true-of-not, neither-left, neither-right}
 use Rattle.number.specs.Limits.{recordsMax}
-use Rattle.source.specs.declared.Header.{Header}
-use Rattle.source.specs.declared.Header.the-variants.{Records, Refused}
-use Rattle.source.specs.Header.{version, recordCount, refused5, headerOf}
+use Rattle.header.specs.declared.Header.{Header}
+use Rattle.header.specs.declared.Header.the-variants.{Records, Refused}
+use Rattle.header.specs.Header.{version, recordCount, refused5, headerOf}
 
 -- n records follow the header
 pub record Accepted (xs : List ℕ) (n : ℕ) : Type 0 where

@@ -1,9 +1,9 @@
 -- Each test that fails refutes the facts of an accepted header; where none does they all hold.
-use Rattle.source.proofs.HeaderLaws.{gives-refused, gives-records}
+use Rattle.header.proofs.HeaderLaws.{gives-refused, gives-records}
 use native.Mathlib.Omega.{arith}
 use borrow.Author.Needs.{needs}
-use Rattle.source.proofs.header_of.Statement.{statement}
-use Rattle.source.proofs.header_of.Tie as tie
+use Rattle.header.proofs.header_of.Statement.{statement}
+use Rattle.header.proofs.header_of.Tie as tie
 
 returns : tie.Need-returns
 returns c = gives-refused _ (λ g. omega arith)

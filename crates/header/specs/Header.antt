@@ -7,11 +7,11 @@ use lib.Dec.{ltb, eqb}
 use Rattle.laws.specs.Choice.{pick, either, ifLt}
 use Rattle.number.specs.BigEndian.{be}
 use Rattle.number.specs.Limits.{recordsMax}
-use Rattle.source.specs.declared.Header.{Header}
-use Rattle.source.specs.declared.Header.the-variants.{Records, Refused}
-use Rattle.source.specs.declared.EncodingRecord.{EncodingRecord}
-use Rattle.source.specs.declared.Entry.{Entry}
-use Rattle.source.specs.declared.Entry.the-variants.{Record, Missing}
+use Rattle.header.specs.declared.Header.{Header}
+use Rattle.header.specs.declared.Header.the-variants.{Records, Refused}
+use Rattle.header.specs.declared.EncodingRecord.{EncodingRecord}
+use Rattle.header.specs.declared.Entry.{Entry}
+use Rattle.header.specs.declared.Entry.the-variants.{Record, Missing}
 
 -- the header: version, count
 abbrev pub version : List ℕ → ℕ
