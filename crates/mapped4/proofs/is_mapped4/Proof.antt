@@ -1,4 +1,5 @@
 -- After i segments the answer is what they say; the walk ends where the definition's does.
+use native.Mathlib.Omega.{arith}
 use borrow.Author.Needs.{needs}
 use Prim.Native.Nat.{_-_}
 use Rattle.mapped4.proofs.Mapped4Laws.{Walking, walking}
@@ -24,7 +25,7 @@ decide-requires : tie.Need-decide-requires Inv-loop μ-loop
 decide-requires c κs = search needs
 
 add-i : tie.Need-add-i Inv-loop μ-loop
-add-i c = search needs
+add-i c = omega arith
 
 loop-less : tie.Need-loop-less Inv-loop μ-loop
 loop-less c = search needs
