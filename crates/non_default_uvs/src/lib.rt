@@ -36,7 +36,7 @@ pub fn measure_non_default(
     let mut bad = false;
     while i < m {
         let from = p + 4 + 5 * i;
-        let looked = uvs_mapping::keeps_mapping(s, from, kept, requested, near);
+        let looked = staying::keeps_mapping(s, from, kept, requested, near);
         near = looked.near;
         i += 1;
         if looked.stays {
@@ -81,7 +81,7 @@ fn copy_mappings(
     let mut n = 0;
     while i < m {
         let from = p + 4 + 5 * i;
-        let found = uvs_mapping::keeps_mapping(s, from, kept, requested, near);
+        let found = staying::keeps_mapping(s, from, kept, requested, near);
         near = found.near;
         i += 1;
         if found.stays {

@@ -35,7 +35,7 @@ fn next_mapping(
     let mut j = i;
     let mut place = near;
     while j < m {
-        let found = uvs_mapping::keeps_mapping(s, p + 4 + 5 * j, kept, requested, place);
+        let found = staying::keeps_mapping(s, p + 4 + 5 * j, kept, requested, place);
         place = found.near;
         if found.stays {
             return Stop {

@@ -8,12 +8,6 @@ use Rattle.number.specs.BigEndian.{be}
 use Rattle.number.specs.Limits.{absent}
 use Rattle.uvs.specs.NonDefault.{keptMappings}
 
--- the mapping at p can be read, and looked up in the lists
-pub record Mapping (xs : List ℕ) (p : ℕ) (kept requested : List ℕ) : Type 0 where
-  pub inside : p + 5 ≤ length xs
-  pub kept-rises : Rising kept
-  pub requested-rises : Rising requested
-
 -- the whole table can be read
 pub record Table (xs : List ℕ) (p : ℕ) (kept requested : List ℕ) : Type 0 where
   pub head : p + 4 ≤ length xs

@@ -1,7 +1,7 @@
 -- In a rising list c stands behind all that are below it, or nowhere.
 use borrow.Author.Needs.{needs}
-use Rattle.uvs_mapping.proofs.stands_at.Statement.{statement}
-use Rattle.uvs_mapping.proofs.stands_at.Tie as tie
+use Rattle.staying.proofs.stands_at.Statement.{statement}
+use Rattle.staying.proofs.stands_at.Tie as tie
 use Rattle.marks.proofs.BelowLaws.{halving}
 
 mul-result : tie.Need-mul-result

@@ -1,8 +1,8 @@
 -- Where the point at the place is not below c and the one before it is, the place is the count.
 use borrow.Author.Needs.{needs}
-use Rattle.uvs_mapping.proofs.count_at.Statement.{statement}
-use Rattle.uvs_mapping.proofs.count_at.Tie as tie
-use Rattle.uvs_mapping.proofs.MappingLaws.{bounds}
+use Rattle.staying.proofs.count_at.Statement.{statement}
+use Rattle.staying.proofs.count_at.Tie as tie
+use Rattle.staying.proofs.StayingLaws.{bounds}
 
 step-requires : tie.Need-step-requires
 step-requires c κs = search needs

@@ -1,7 +1,7 @@
 -- The lists answer as they hold, and the two answers are joined as the definition joins them; an empty list holds nothing.
-use Rattle.uvs_mapping.proofs.keeps_mapping.Statement.{statement}
-use Rattle.uvs_mapping.proofs.keeps_mapping.Tie as tie
-use Rattle.uvs_mapping.proofs.MappingLaws.{keeps-rules}
+use Rattle.staying.proofs.keeps_mapping.Statement.{statement}
+use Rattle.staying.proofs.keeps_mapping.Tie as tie
+use Rattle.staying.proofs.StayingLaws.{keeps-rules}
 use borrow.Author.Needs.{needs}
 
 u24-at-requires : tie.Need-u24-at-requires
