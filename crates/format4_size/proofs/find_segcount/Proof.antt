@@ -1,14 +1,14 @@
 -- Counting what the first pair of each run commits, and then what is left and the closing segment, counts the whole cut.
-use Rattle.format4.proofs.find_segcount.Statement.{statement}
-use Rattle.format4.proofs.find_segcount.Tie as tie
+use Rattle.format4_size.proofs.find_segcount.Statement.{statement}
+use Rattle.format4_size.proofs.find_segcount.Tie as tie
 use Rattle.format4.proofs.RangeCounter.absorb.Reads as RangeCounter-absorb-reads
 use Rattle.format4.proofs.RangeCounter.new.Reads as RangeCounter-new-reads
 use Rattle.ranges.proofs.RangeState.absorb.Reads as RangeState-absorb-reads
 use Rattle.ranges.proofs.RangeState.new.Reads as RangeState-new-reads
 use Prim.Native.Nat.{_-_}
 use lib.ListN.{length}
 use borrow.Author.Needs.{needs}
 use Rattle.format4.proofs.CountLaws.{Counting, counting-start, counting-on, ending-below, counting-end}
 
 abbrev Inv-loop : tie.InvT-loop
 Inv-loop codes glyphs state₀ n₀ i₀ state n i = Counting codes glyphs state n i

@@ -1,8 +1,8 @@
 -- The count decides: no pairs, a length that fits, or one that does not.
 use Rattle.format4.proofs.CountLaws.{size-empty, size-fits, size-long}
 use borrow.Author.Needs.{needs}
-use Rattle.format4.proofs.format4_size.Statement.{statement}
-use Rattle.format4.proofs.format4_size.Tie as tie
+use Rattle.format4_size.proofs.format4_size.Statement.{statement}
+use Rattle.format4_size.proofs.format4_size.Tie as tie
 
 returns : tie.Need-returns
 returns c = search size-empty
