@@ -1,12 +1,11 @@
-// Which code points a format 4 subtable maps: what each segment says, and the answer for one code point.
+// What each segment of a format 4 subtable says of a code point, and how many segments are walked.
 ghost use mathlib.Core.Path.{_≡_};
 ghost use Prim.Native.Nat.{_+_, _*_, _≤_, _<_};
 ghost use lib.ListN.{length};
-ghost use Rattle.laws.specs.Choice.{pick};
 ghost use Rattle.laws.specs.Search.{first};
 ghost use Rattle.marks.specs.Marks.{Inside};
 ghost use Rattle.source.specs.Room.{Room4};
-ghost use Rattle.mapped4.specs.Mapped4.{Read4, entry4, says4, holds4, stops4, maps4};
+ghost use Rattle.mapped4.specs.Mapped4.{Read4, entry4, says4, stops4};
 
 pub struct Segment {
     pub start: u32,
@@ -74,49 +73,6 @@ pub fn segment_maps(
     let place = (segment.offset / 2) as usize + i;
     let away = (c - segment.start) as usize;
     0 < entry(s, at, segs, len, place, away)
-}
-
-// What is said of c up to segment i, where `before` is what was said before it.
-fn decide(
-    s: &[u8],
-    at: usize,
-    segs: usize,
-    len: usize,
-    i: usize,
-    segment: Segment,
-    c: u32,
-    before: bool,
-) -> bool
-    requires { ⌜ Room4 (now s) at segs len ⌝ }
-    requires { ⌜ Read4 (now s) at segs i segment ⌝ }
-    requires { ⌜ i < segs ⌝ }
-    ensures { λ r. ⌜ r ≡ pick (holds4 segment c) (says4 (now (s .entry)) at segs len i segment c) before ⌝ }
-{
-    if c < segment.start {
-        return before;
-    }
-    if segment.end < c {
-        return before;
-    }
-    segment_maps(s, at, segs, len, i, segment, c)
-}
-
-// Whether the subtable maps c.
-pub fn is_mapped4(s: &[u8], at: usize, segs: usize, len: usize, c: u32) -> bool
-    requires { ⌜ Room4 (now s) at segs len ⌝ }
-    ensures { λ r. ⌜ r ≡ maps4 (now (s .entry)) at segs len c ⌝ }
-{
-    let mut mapped = false;
-    let mut i = 0;
-    while i < segs {
-        let segment = segment_at(s, at, segs, i);
-        if segment.start == Segment::WALK_END {
-            return mapped;
-        }
-        mapped = decide(s, at, segs, len, i, segment, c, mapped);
-        i += 1;
-    }
-    mapped
 }
 
 // How many segments are walked.

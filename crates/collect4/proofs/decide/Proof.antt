@@ -1,8 +1,8 @@
 -- A code point outside the segment leaves what was said.
 use Rattle.laws.proofs.ChoiceLaws.{tests}
 use borrow.Author.Needs.{needs}
-use Rattle.mapped4.proofs.decide.Statement.{statement}
-use Rattle.mapped4.proofs.decide.Tie as tie
+use Rattle.collect4.proofs.decide.Statement.{statement}
+use Rattle.collect4.proofs.decide.Tie as tie
 
 returns : tie.Need-returns
 returns c = search tests

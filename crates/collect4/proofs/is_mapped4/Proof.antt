@@ -2,9 +2,9 @@
 use native.Mathlib.Omega.{arith}
 use borrow.Author.Needs.{needs}
 use Prim.Native.Nat.{_-_}
 use Rattle.mapped4.proofs.Mapped4Laws.{Walking, walking}
-use Rattle.mapped4.proofs.is_mapped4.Statement.{statement}
-use Rattle.mapped4.proofs.is_mapped4.Tie as tie
+use Rattle.collect4.proofs.is_mapped4.Statement.{statement}
+use Rattle.collect4.proofs.is_mapped4.Tie as tie
 
 abbrev Inv-loop : tie.InvT-loop
 Inv-loop s at segs len c mapped₀ i₀ mapped i = Walking s at segs len c i mapped
