@@ -11,7 +11,7 @@ use Rattle.laws.specs.Search.{first}
 use Rattle.laws.proofs.ChoiceLaws.{by-leb, both-left, both-right, false-true, not-true, if-lt, else-lt}
 use Rattle.laws.proofs.FirstLaws.{first-before, first-holds}
 use Rattle.laws.proofs.StandsLaws.{Stands}
-use Rattle.source.specs.Header.{offsetOf}
+use Rattle.header.specs.Header.{offsetOf}
 use Rattle.source.specs.Kind.{kindAt, formatOf}
 use Rattle.records.specs.Records.{leadsTo, leadsToFormat}
 use Rattle.listing.specs.Job.{Job}

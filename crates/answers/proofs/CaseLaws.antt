@@ -10,12 +10,13 @@ use Rattle.laws.specs.Pieces.{pieces, concat}
 use Rattle.laws.proofs.ChoiceLaws.{by-leb}
 use Rattle.number.specs.BigEndian.{be, enc, Bytes}
 use Rattle.number.specs.Row.{encs}
-use Rattle.source.specs.Header.{refused5}
+use Rattle.header.specs.Header.{refused5}
 use Rattle.source.specs.Kind.{kindAt}
 use Rattle.records.specs.Records.{leadsTo, bmpPair, fullPair, retained, someRetained}
 use Rattle.marks.specs.Marks.{below, holds}
-use Rattle.checks.specs.Checks.{badSizes, falls, exceeds, lacks, reachesCount}
-use Rattle.checks.proofs.ChecksLaws.{at-most}
+use Rattle.checks.specs.Checks.{badSizes}
+use Rattle.order.specs.Order.{falls, exceeds, lacks, reachesCount}
+use Rattle.order.proofs.OrderLaws.{at-most}
 use Rattle.mapped4.specs.Mapped4.{entry4, says4, lastSays, maps4}
 use Rattle.listing.specs.Listing.{maps, listed}
 use Rattle.covering.specs.Covered.{covered, siblingCovers}

@@ -16,9 +16,9 @@ use Rattle.laws.proofs.EitherLaws.{true-of-not, both-neither}
 use Rattle.laws.proofs.FirstLaws.{first-before}
 use Rattle.laws.proofs.SomeLaws.{some-none}
 use Rattle.number.specs.BigEndian.{Bytes}
-use Rattle.source.specs.Header.{recordCount}
+use Rattle.header.specs.Header.{recordCount}
 use Rattle.source.specs.Kind.{formatOf}
-use Rattle.source.proofs.HeaderLaws.{Accepted, accepted-of}
+use Rattle.header.proofs.HeaderLaws.{Accepted, accepted-of}
 use Rattle.records.specs.Records.{leadsTo, leadsToFormat}
 use Rattle.listing.specs.Job.{Job, glyphCount}
 use Rattle.listing.specs.Listing.{maps}

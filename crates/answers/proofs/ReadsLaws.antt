@@ -2,7 +2,7 @@
 use Prim.Native.Nat.{_≤_}
 use borrow.Author.Tests.{eqb-true}
 use Rattle.number.specs.Limits.{recordsMax}
-use Rattle.source.specs.Header.{recordCount}
+use Rattle.header.specs.Header.{recordCount}
 use Rattle.source.specs.Kind.{formatOf}
 use Rattle.records.specs.Records.{leadsTo}
 use Rattle.listing.specs.Job.{Job}

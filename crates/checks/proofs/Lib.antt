@@ -1,2 +1,1 @@
-pub mod ChecksLaws
 pub mod SizesLaws

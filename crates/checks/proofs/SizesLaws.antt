@@ -12,8 +12,9 @@ use Rattle.laws.specs.Lists.{Rising}
 use Rattle.laws.proofs.ChoiceLaws.{by-leb}
 use Rattle.laws.proofs.EitherLaws.{true-of-not, neither-left, neither-right}
 use Rattle.number.specs.Limits.{sourceMax, pairsMax, keptMax, glyphCountMax, requestedMax, unicodeMax, newGlyphMax}
-use Rattle.checks.specs.Checks.{badSizes, falls, exceeds, badPairs, badKept, badRequested, lacks, reachesCount}
-use Rattle.checks.proofs.ChecksLaws.{rising, at-most}
+use Rattle.checks.specs.Checks.{badSizes, badPairs, badKept, badRequested}
+use Rattle.order.specs.Order.{falls, exceeds, lacks, reachesCount}
+use Rattle.order.proofs.OrderLaws.{rising, at-most}
 
 pub record Sizes (source codes glyphs kept n requested : ℕ) : Type 0 where
   pub source-short : source ≤ sourceMax

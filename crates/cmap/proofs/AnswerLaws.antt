@@ -7,7 +7,7 @@ use lib.ListN.{length}
 use lib.Seq.{sets}
 use borrow.Author.Tests.{ne-eqb, lt-ltb, le-ltb}
 use Rattle.laws.proofs.FrontLaws.{sets-front}
-use Rattle.source.proofs.HeaderLaws.{accepted-of}
+use Rattle.header.proofs.HeaderLaws.{accepted-of}
 use Rattle.listing.specs.Job.{Job}
 use Rattle.outcomes.specs.declared.Outcome.{Outcome}
 use Rattle.plan.specs.Plan.{plan}

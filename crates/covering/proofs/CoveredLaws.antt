@@ -1,5 +1,5 @@
 -- The flags of the kept points say what the definition asks of the subtables.
-use Prim.Native.Nat.{ℕ, zero, suc, _+_, _-_, _<_, _≤_}
+use Prim.Native.Nat.{ℕ, zero, suc, _-_, _<_, _≤_}
 use mathlib.Core.Path.{_≡_, refl, sym, ap, _∙_}
 use mathlib.Core.List.{List, [], _∷_}
 use mathlib.Core.Bool.{Bool, true, false, not}
@@ -10,7 +10,6 @@ use lib.ListN.{length, getD, take, drop, length-drop, drop-of-length-le}
 use lib.Seq.{sets, take-all}
 use Rattle.laws.specs.Choice.{pick, both, either}
 use Rattle.laws.specs.Lists.{Rising}
-use Rattle.laws.specs.Search.{some}
 use Rattle.laws.specs.Select.{select, anyOf, eqList}
 use Rattle.laws.proofs.AnyLaws.{some-ext, anyOf-some}
 use Rattle.laws.proofs.ChoiceLaws.{by-pick, by-leb, false-true}
@@ -20,7 +19,8 @@ use Rattle.marks.specs.Marks.{below, flagged, flagOf, Bound}
 use Rattle.marks.proofs.MarksLaws.{length-flagged}
 use Rattle.marks.proofs.BelowLaws.{below-tail}
 use Rattle.listing.specs.Listing.{maps, Beside}
-use Rattle.covering.specs.Covered.{reachesAbove, mapAlike, firstSibling, siblingCovers, isSet, someSet, isOther, flagsDiffer, Rooms}
+use Rattle.covering.specs.Covered.{reachesAbove, mapAlike, siblingCovers, isSet, someSet, isOther, flagsDiffer, Rooms}
+use Rattle.sibling.specs.Sibling.{firstSibling}
 use borrow.Author.Tests.{lt-ltb, le-ltb, le-leb, lt-leb, eq-eqb, ne-eqb}
 
 flagged-at : (m : ℕ → Bool) (ps : List ℕ) (i : ℕ) → i < length ps → getD (flagged m ps) i 0 ≡ flagOf (m (getD ps i 0))

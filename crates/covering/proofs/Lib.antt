@@ -1,2 +1,1 @@
-pub mod SiblingLaws
 pub mod CoveredLaws

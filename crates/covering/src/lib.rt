@@ -1,110 +1,13 @@
 // Whether a format 12 record is covered by its sibling, and so may be left out.
-use source::Kind;
 ghost use mathlib.Core.Path.{_≡_};
-ghost use Prim.Native.Nat.{_≤_, _<_};
+ghost use Prim.Native.Nat.{_≤_};
 ghost use lib.ListN.{length};
 ghost use lib.Dec.{ltb, eqb};
 ghost use mathlib.Core.Bool.{not};
-ghost use Rattle.laws.specs.Choice.{both};
 ghost use Rattle.laws.specs.Select.{anyOf};
-ghost use Rattle.records.specs.Records.{leadsTo, isPair, Placed, Counted};
+ghost use Rattle.records.specs.Records.{Placed};
 ghost use Rattle.listing.specs.Listing.{maps, Beside};
-ghost use Rattle.covering.specs.Covered.{siblingPair, languageOf, speaks, isSibling, firstSibling, reachesAbove, someSet, flagsDiffer, siblingCovers, covered, Rooms};
-
-fn language_of(kind: Kind) -> u32
-    ensures { λ r. ⌜ r ≡ languageOf kind ⌝ }
-{
-    match kind {
-        Kind::Format4 {
-            language,
-            segments: _,
-            length: _,
-        } => language,
-        Kind::Format12 {
-            language,
-            groups: _,
-            length: _,
-        } => language,
-        Kind::Format14 {
-            records: _,
-            length: _,
-        } => 0,
-        Kind::Unreadable => 0,
-    }
-}
-
-fn has_language(wanted: u32, kind: Kind) -> bool
-    ensures { λ r. ⌜ r ≡ speaks wanted kind ⌝ }
-{
-    match kind {
-        Kind::Format4 {
-            language,
-            segments: _,
-            length: _,
-        } => language == wanted,
-        Kind::Format12 {
-            language,
-            groups: _,
-            length: _,
-        } => language == wanted,
-        Kind::Format14 {
-            records: _,
-            length: _,
-        } => false,
-        Kind::Unreadable => false,
-    }
-}
-
-fn both_pairs(s: &[u8], k: usize, i: usize, platform: u32, full: u32, bmp: u32) -> bool
-    requires { ⌜ Placed (now s) k ⌝ }
-    requires { ⌜ Placed (now s) i ⌝ }
-    ensures { λ r. ⌜ r ≡ both (isPair platform full (now (s .entry)) k) (isPair platform bmp (now (s .entry)) i) ⌝ }
-{
-    if records::is_pair(s, k, platform, full) {
-        return records::is_pair(s, i, platform, bmp);
-    }
-    false
-}
-
-fn sibling_pair(s: &[u8], k: usize, i: usize) -> bool
-    requires { ⌜ Placed (now s) k ⌝ }
-    requires { ⌜ Placed (now s) i ⌝ }
-    ensures { λ r. ⌜ r ≡ siblingPair (now (s .entry)) k i ⌝ }
-{
-    if both_pairs(s, k, i, 0, 4, 3) {
-        return true;
-    }
-    both_pairs(s, k, i, 3, 10, 1)
-}
-
-// Whether record i is of the pair and language that may cover record k.
-fn is_sibling(s: &[u8], k: usize, i: usize) -> bool
-    requires { ⌜ Placed (now s) k ⌝ }
-    requires { ⌜ Placed (now s) i ⌝ }
-    ensures { λ r. ⌜ r ≡ isSibling (now (s .entry)) k i ⌝ }
-{
-    if sibling_pair(s, k, i) {
-        let wanted = language_of(records::leads_to(s, k));
-        return has_language(wanted, records::leads_to(s, i));
-    }
-    false
-}
-
-// The first such record of the first n; n where there is none.
-fn first_sibling(s: &[u8], n: usize, k: usize) -> usize
-    requires { ⌜ Counted (now s) n ⌝ }
-    requires { ⌜ k < n ⌝ }
-    ensures { λ r. ⌜ r ≡ firstSibling (now (s .entry)) k ⌝ }
-{
-    let mut i = 0;
-    while i < n {
-        if is_sibling(s, k, i) {
-            return i;
-        }
-        i += 1;
-    }
-    i
-}
+ghost use Rattle.covering.specs.Covered.{reachesAbove, someSet, flagsDiffer, siblingCovers, covered, Rooms};
 
 fn is_set(flag: u8) -> bool
     ensures { λ r. ⌜ r ≡ ltb 0 flag ⌝ }
@@ -184,7 +87,7 @@ fn sibling_covers(
     requires { ⌜ Rooms (now s) m k n (now kept) (now flags) (now others) ⌝ }
     ensures { λ r. ⌜ r ≡ siblingCovers (now (s .entry)) n (now (kept .entry)) k ⌝ }
 {
-    let i = first_sibling(s, m, k);
+    let i = sibling::first_sibling(s, m, k);
     if m <= i {
         return false;
     }

@@ -23,7 +23,7 @@ use Rattle.number.proofs.StandsLaws.{be-stands}
 use Rattle.uvs.specs.Tables.{table}
 use Rattle.uvs.proofs.ReadLaws.{each-select, stands-front, stands-back, stands-whole, table-back}
 use Rattle.uvs.specs.Default.{range, ranges, rangeBytes, covers, coveredBy, coveredPoints, follow, longest, longRanges, singlePoints, inRanges, newRecords, newDefault}
-use Rattle.default_uvs.proofs.StreamLaws.{range-size, begun, begun-start, begun-full, begun-end, begun-gap, begun-on}
+use Rattle.default_ranges.proofs.StreamLaws.{range-size, begun, begun-start, begun-full, begun-end, begun-gap, begun-on}
 use Rattle.default_uvs.proofs.NewLaws.{longest-single}
 
 either-assoc : (a b c : Bool) → either (either a b) c ≡ either a (either b c)

@@ -14,9 +14,9 @@ use Rattle.uvs.specs.Checksum.{mixed, checksum}
 use Rattle.uvs.specs.Default.{follow, longest, longRanges, singlePoints, inRanges, coveredBy, coveredPoints, rangeBytes, newRecords, newDefault}
 use Rattle.uvs.proofs.ChecksumLaws.{checksum-table}
 use Rattle.uvs.proofs.TablesLaws.{size-none, size-some, write-none, write-room, write-some}
-use Rattle.default_uvs.specs.Stream.{Lent, Count, records, mostOf}
-use Rattle.default_uvs.proofs.CoverLaws.{points-covered}
-use Rattle.default_uvs.proofs.StreamLaws.{range-size}
+use Rattle.default_ranges.specs.Stream.{Lent, Count, records, mostOf}
+use Rattle.covered_points.proofs.CoverLaws.{points-covered}
+use Rattle.default_ranges.proofs.StreamLaws.{range-size}
 
 -- ranges of one point each are single points
 pub longest-single : (ps : List ℕ) → longest 0 0 ps ≡ singlePoints ps

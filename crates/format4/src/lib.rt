@@ -1,15 +1,13 @@
-// How many segments and glyphs a format 4 subtable has, and whether its length fits.
+// A format 4 subtable as it is defined, and a counter of its segments and glyphs.
 use ranges::Committed;
-use ranges::RangeState;
 use ranges::Segment;
 ghost use mathlib.Core.Path.{_≡_};
 ghost use mathlib.Core.List.{_∷_, []};
-ghost use Prim.Native.Nat.{_+_, _*_, _≤_, _<_};
-ghost use Rattle.laws.specs.Lists.{pairs};
+ghost use Prim.Native.Nat.{_≤_};
 ghost use Rattle.ranges.specs.Steps.{toList};
 ghost use Rattle.ranges.specs.Cutting.{closing, entriesOf, points};
-ghost use Rattle.format4.specs.Size.{Columns, counter, lengthOf, sizeOf};
-ghost use Rattle.format4.specs.Walk.{Below, Adds, Counts};
+ghost use Rattle.format4.specs.Size.{counter, lengthOf};
+ghost use Rattle.format4.specs.Walk.{Below, Adds};
 
 pub struct RangeCounter {
     pub segments: usize,
@@ -44,7 +42,7 @@ pub fn entries_of(x: Segment) -> usize
 }
 
 impl RangeCounter {
-    fn new() -> Self
+    pub fn new() -> Self
         ensures { λ r. ⌜ r ≡ counter 0 0 ⌝ }
     {
         RangeCounter {
@@ -63,7 +61,7 @@ impl RangeCounter {
         }
     }
 
-    fn absorb(self, out: Committed) -> Self
+    pub fn absorb(self, out: Committed) -> Self
         requires { ⌜ Below 100000000000 self ⌝ }
         ensures { λ r. ⌜ Adds self (toList out) r ⌝ }
     {
@@ -75,7 +73,7 @@ impl RangeCounter {
     }
 
     // The closing segment, if there is one.
-    fn close(self, close: bool) -> Self
+    pub fn close(self, close: bool) -> Self
         requires { ⌜ Below 100000000000 self ⌝ }
         ensures { λ r. ⌜ Adds self (closing close) r ⌝ }
     {
@@ -89,46 +87,10 @@ impl RangeCounter {
         self
     }
 
-    fn length(self) -> usize
+    pub fn length(self) -> usize
         requires { ⌜ Below 1000000000000 self ⌝ }
         ensures { λ r. ⌜ r ≡ lengthOf self ⌝ }
     {
         16 + 8 * self.segments + 2 * self.glyphs
     }
-}
-
-// How many segments the pairs are cut into, and how many glyphs their array has.
-fn find_segcount(codes: &[u32], glyphs: &[u16]) -> RangeCounter
-    requires { ⌜ Columns (now codes) (now glyphs) ⌝ }
-    ensures { λ r. ⌜ Counts (pairs (now (codes .entry)) (now (glyphs .entry))) r ⌝ }
-{
-    let mut state = RangeState::new();
-    let mut n = RangeCounter::new();
-    let mut i: usize = 0;
-    // A run at a time: growing to its last pair takes in all that go on.
-    while i < codes.len() {
-        let a = state.absorb(codes[i] as u16, glyphs[i]);
-        let begun = a.state;
-        let out = a.out;
-        n = n.absorb(out);
-        i = runs::run_end(codes, glyphs, i);
-        state = begun.grow(codes[i - 1] as u16, glyphs[i - 1]);
-    }
-    let f = state.finish();
-    let out = f.out;
-    n.absorb(out).close(f.close)
-}
-
-pub fn format4_size(codes: &[u32], glyphs: &[u16]) -> Size
-    requires { ⌜ Columns (now codes) (now glyphs) ⌝ }
-    ensures { λ r. ⌜ r ≡ sizeOf (pairs (now (codes .entry)) (now (glyphs .entry))) ⌝ }
-{
-    if codes.len() == 0 {
-        return Size::Empty;
-    }
-    let n = find_segcount(codes, glyphs);
-    if n.length() <= number::limits::FORMAT4_LENGTH_MAX {
-        return Size::Fits(n);
-    }
-    Size::TooLong
 }

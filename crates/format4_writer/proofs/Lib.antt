@@ -1,4 +1,2 @@
 pub mod LogLaws
-pub mod PlacesLaws
-pub mod WalkLaws
 pub mod SubtableLaws

@@ -12,7 +12,7 @@ use Rattle.laws.proofs.SearchLaws.{Looking, looking-start, looking-on, looking-
 use Rattle.number.specs.Row.{encs}
 use Rattle.format4.specs.Format4.{floorLog2}
 use Rattle.format4_writer.specs.declared.Log.{Log}
-use Rattle.format4_writer.specs.Places.{Logs}
+use Rattle.format4_writer.specs.Log.{Logs}
 
 -- the power is 2^e, it does not exceed s, and no smaller logarithm was found
 pub record Doubling (s e power : ℕ) : Type 0 where

@@ -10,10 +10,10 @@ use lib.Dec.{ltb}
 use Rattle.laws.specs.Choice.{ifLt}
 use Rattle.laws.proofs.ChoiceLaws.{by-pick, if-lt, else-lt}
 use Rattle.laws.proofs.FirstLaws.{first-is, first-past}
-use Rattle.source.specs.declared.Header.{Header}
-use Rattle.source.specs.declared.Header.the-variants.{Records, Refused as Rejected}
-use Rattle.source.specs.Header.{refused5, recordCount, headerOf, offsetOf}
-use Rattle.source.proofs.HeaderLaws.{Accepted, not-refused, tells-records, tells-refused}
+use Rattle.header.specs.declared.Header.{Header}
+use Rattle.header.specs.declared.Header.the-variants.{Records, Refused as Rejected}
+use Rattle.header.specs.Header.{refused5, recordCount, headerOf, offsetOf}
+use Rattle.header.proofs.HeaderLaws.{Accepted, not-refused, tells-records, tells-refused}
 use Rattle.records.specs.Records.{leadsToFormat}
 use Rattle.lookup.specs.Lookup.{lookup4, lookup12, glyphOf}
 use Rattle.heads.specs.declared.Answer.{Answer}

@@ -3,7 +3,7 @@ use Prim.Native.Nat.{ℕ}
 use mathlib.Core.List.{List}
 use Rattle.laws.specs.Choice.{pick, ifLt}
 use Rattle.laws.specs.Search.{first}
-use Rattle.source.specs.Header.{refused5, recordCount, offsetOf}
+use Rattle.header.specs.Header.{refused5, recordCount, offsetOf}
 use Rattle.records.specs.Records.{leadsToFormat}
 use Rattle.lookup.specs.Lookup.{lookup4, lookup12, glyphOf}
 use Rattle.heads.specs.declared.Answer.{Answer}

@@ -33,7 +33,7 @@ fn old_of(s: &[u8], c: u32, n: usize) -> Answer
 {
     let k = first_record(s, 4, n);
     if k < n {
-        return Answer::Glyph(lookup::glyph_of(lookup::lookup4(s, source::offset_of(s, k), c)));
+        return Answer::Glyph(lookup::glyph_of(lookup_at::lookup4(s, header::offset_of(s, k), c)));
     }
     Answer::Refused(11)
 }
@@ -44,7 +44,7 @@ fn new_of(s: &[u8], c: u32, n: usize) -> Answer
 {
     let k = first_record(s, 12, n);
     if k < n {
-        return Answer::Glyph(lookup::glyph_of(lookup::lookup12(s, source::offset_of(s, k), c)));
+        return Answer::Glyph(lookup::glyph_of(lookup_at::lookup12(s, header::offset_of(s, k), c)));
     }
     old_of(s, c, n)
 }
@@ -52,17 +52,17 @@ fn new_of(s: &[u8], c: u32, n: usize) -> Answer
 pub fn old_head(table: &[u8], c: u32) -> Answer
     ensures { λ r. ⌜ r ≡ oldHead (now (table .entry)) c ⌝ }
 {
-    match source::header_of(table) {
-        source::Header::Records(n) => old_of(table, c, n),
-        source::Header::Refused => Answer::Refused(5),
+    match header::header_of(table) {
+        header::Header::Records(n) => old_of(table, c, n),
+        header::Header::Refused => Answer::Refused(5),
     }
 }
 
 pub fn new_head(table: &[u8], c: u32) -> Answer
     ensures { λ r. ⌜ r ≡ newHead (now (table .entry)) c ⌝ }
 {
-    match source::header_of(table) {
-        source::Header::Records(n) => new_of(table, c, n),
-        source::Header::Refused => Answer::Refused(5),
+    match header::header_of(table) {
+        header::Header::Records(n) => new_of(table, c, n),
+        header::Header::Refused => Answer::Refused(5),
     }
 }

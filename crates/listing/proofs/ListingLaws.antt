@@ -12,8 +12,8 @@ use Rattle.laws.proofs.TakeLaws.{take-counts}
 use Rattle.number.specs.BigEndian.{Bytes}
 use Rattle.source.specs.declared.Kind.{Kind}
 use Rattle.source.specs.declared.Kind.the-variants.{Format4, Format12, Format14, Unreadable}
-use Rattle.source.specs.declared.EncodingRecord.{EncodingRecord}
-use Rattle.source.specs.Header.{recordOf}
+use Rattle.header.specs.declared.EncodingRecord.{EncodingRecord}
+use Rattle.header.specs.Header.{recordOf}
 use Rattle.source.specs.Kind.{kindAt}
 use Rattle.source.specs.Room.{Room4, Room12}
 use Rattle.records.specs.Records.{leadsTo}

@@ -17,12 +17,12 @@ fn collect_unicodes(s: &[u8], at: usize, kind: Kind, n: u32, points: &[u32], fla
             language: _,
             segments,
             length,
-        } => mapped4::collect_unicodes4(s, at, segments, length, points, flags),
+        } => collect4::collect_unicodes4(s, at, segments, length, points, flags),
         Kind::Format12 {
             language: _,
             groups,
             length: _,
-        } => mapped12::collect_unicodes12(s, at, groups, n, points, flags),
+        } => collect12::collect_unicodes12(s, at, groups, n, points, flags),
         Kind::Format14 {
             records: _,
             length: _,

@@ -1,30 +1,13 @@
-// The glyph that a format 4 or format 12 subtable gives for a code point, read from any bytes.
+// What a segment of a format 4 subtable, or a group of a format 12, gives for a code point, read from any bytes.
 ghost use mathlib.Core.Path.{_≡_};
 ghost use Prim.Native.Nat.{_≤_, _<_};
-ghost use Rattle.laws.specs.Search.{first};
 ghost use Rattle.source.specs.Room.{Room4, Room12};
-ghost use Rattle.source.specs.Fields.{endCode, endCharCode};
-ghost use Rattle.lookup.specs.Lookup.{reaches, inArray, inSegment, find4, inGroup, find12, lookup4, lookup12, glyphOf};
+ghost use Rattle.lookup.specs.Lookup.{inArray, inSegment, inGroup, glyphOf};
 
 // A lookup's answer. A glyph 0 that the table gives is not the same as nothing there.
 pub enum Found {
     Nothing,
     Glyph(u32),
-}
-
-// The first segment whose end is at least c; `segments` where there is none.
-fn first_segment(s: &[u8], at: usize, segments: usize, length: usize, c: u32) -> usize
-    requires { ⌜ Room4 (now s) at segments length ⌝ }
-    ensures { λ r. ⌜ r ≡ first (reaches (endCode (now (s .entry)) at) c) segments 0 ⌝ }
-{
-    let mut i = 0;
-    while i < segments {
-        if c <= number::u16_at(s, at + 14 + 2 * i) {
-            return i;
-        }
-        i += 1;
-    }
-    i
 }
 
 // The array's answer at index `place - segments`.
@@ -47,7 +30,7 @@ fn in_array(s: &[u8], at: usize, segments: usize, length: usize, place: usize, d
 }
 
 // The answer of segment i.
-fn in_segment(s: &[u8], at: usize, segments: usize, length: usize, i: usize, c: u32) -> Found
+pub fn in_segment(s: &[u8], at: usize, segments: usize, length: usize, i: usize, c: u32) -> Found
     requires { ⌜ Room4 (now s) at segments length ⌝ }
     requires { ⌜ (i < segments) × (c ≤ 65535) ⌝ }
     ensures { λ r. ⌜ r ≡ inSegment (now (s .entry)) at segments length i c ⌝ }
@@ -71,37 +54,8 @@ fn in_segment(s: &[u8], at: usize, segments: usize, length: usize, i: usize, c: 
     )
 }
 
-fn find4_in(s: &[u8], at: usize, segments: usize, length: usize, c: u32) -> Found
-    requires { ⌜ Room4 (now s) at segments length ⌝ }
-    ensures { λ r. ⌜ r ≡ find4 (now (s .entry)) at segments length c ⌝ }
-{
-    if 0xFFFF < c {
-        return Found::Nothing;
-    }
-    let i = first_segment(s, at, segments, length, c);
-    if i < segments {
-        return in_segment(s, at, segments, length, i, c);
-    }
-    Found::Nothing
-}
-
-// The first group whose end is at least c; `groups` where there is none.
-fn first_group(s: &[u8], at: usize, groups: usize, c: u32) -> usize
-    requires { ⌜ Room12 (now s) at groups ⌝ }
-    ensures { λ r. ⌜ r ≡ first (reaches (endCharCode (now (s .entry)) at) c) groups 0 ⌝ }
-{
-    let mut i = 0;
-    while i < groups {
-        if c <= number::u32_at(s, at + 20 + 12 * i) {
-            return i;
-        }
-        i += 1;
-    }
-    i
-}
-
 // The answer of group i. The sum is taken in 64 bits, where it cannot wrap.
-fn in_group(s: &[u8], at: usize, groups: usize, i: usize, c: u32) -> Found
+pub fn in_group(s: &[u8], at: usize, groups: usize, i: usize, c: u32) -> Found
     requires { ⌜ Room12 (now s) at groups ⌝ }
     requires { ⌜ i < groups ⌝ }
     ensures { λ r. ⌜ r ≡ inGroup (now (s .entry)) at i c ⌝ }
@@ -116,63 +70,6 @@ fn in_group(s: &[u8], at: usize, groups: usize, i: usize, c: u32) -> Found
         return Found::Nothing;
     }
     Found::Glyph(glyph as u32)
-}
-
-fn find12_in(s: &[u8], at: usize, groups: usize, c: u32) -> Found
-    requires { ⌜ Room12 (now s) at groups ⌝ }
-    ensures { λ r. ⌜ r ≡ find12 (now (s .entry)) at groups c ⌝ }
-{
-    let i = first_group(s, at, groups, c);
-    if i < groups {
-        return in_group(s, at, groups, i, c);
-    }
-    Found::Nothing
-}
-
-// What the subtable at an offset gives for c, if it is a readable format 4.
-pub fn lookup4(s: &[u8], at: usize, c: u32) -> Found
-    ensures { λ r. ⌜ r ≡ lookup4 (now (s .entry)) at c ⌝ }
-{
-    match source::kind_at(s, at) {
-        source::Kind::Format4 {
-            language: _,
-            segments,
-            length,
-        } => find4_in(s, at, segments, length, c),
-        source::Kind::Format12 {
-            language: _,
-            groups: _,
-            length: _,
-        } => Found::Nothing,
-        source::Kind::Format14 {
-            records: _,
-            length: _,
-        } => Found::Nothing,
-        source::Kind::Unreadable => Found::Nothing,
-    }
-}
-
-// What the subtable at an offset gives for c, if it is a readable format 12.
-pub fn lookup12(s: &[u8], at: usize, c: u32) -> Found
-    ensures { λ r. ⌜ r ≡ lookup12 (now (s .entry)) at c ⌝ }
-{
-    match source::kind_at(s, at) {
-        source::Kind::Format4 {
-            language: _,
-            segments: _,
-            length: _,
-        } => Found::Nothing,
-        source::Kind::Format12 {
-            language: _,
-            groups,
-            length: _,
-        } => find12_in(s, at, groups, c),
-        source::Kind::Format14 {
-            records: _,
-            length: _,
-        } => Found::Nothing,
-        source::Kind::Unreadable => Found::Nothing,
-    }
 }
 
 // The glyph that a head prints: 0 where nothing is there.

@@ -13,7 +13,7 @@ use Rattle.number.specs.BigEndian.{Bytes}
 use Rattle.number.proofs.BigEndianLaws.{be-lt}
 use Rattle.source.specs.declared.Kind.{Kind}
 use Rattle.source.specs.declared.Kind.the-variants.{Format4, Format12, Format14, Unreadable}
-use Rattle.source.specs.Header.{offsetOf}
+use Rattle.header.specs.Header.{offsetOf}
 use Rattle.source.specs.Kind.{formatOf}
 use Rattle.source.proofs.KindLaws.{tells4, tells12}
 use Rattle.records.specs.Records.{leadsTo}

@@ -9,7 +9,7 @@ use Rattle.laws.specs.Choice.{both}
 use Rattle.laws.proofs.ChoiceLaws.{by-leb, both-left, both-right, false-true}
 use Rattle.laws.proofs.FirstLaws.{first-holds, first-none}
 use Rattle.number.specs.Limits.{recordsMax}
-use Rattle.source.specs.Header.{recordCount}
+use Rattle.header.specs.Header.{recordCount}
 use Rattle.source.specs.Kind.{formatOf}
 use Rattle.records.specs.Records.{leadsTo, leadsToFormat, retained}
 use Rattle.listing.specs.Job.{Job, glyphCount}

@@ -11,7 +11,7 @@ use Rattle.laws.proofs.StandsLaws.{Stands}
 use Rattle.ranges.specs.Cutting.{segments}
 use Rattle.source.specs.declared.Kind.{Kind}
 use Rattle.source.specs.declared.Kind.the-variants.{Format4, Format12, Format14}
-use Rattle.source.specs.Header.{offsetOf}
+use Rattle.header.specs.Header.{offsetOf}
 use Rattle.source.specs.Kind.{kindAt, formatOf}
 use Rattle.source.proofs.KindLaws.{tells14}
 use Rattle.records.specs.Records.{leadsTo}

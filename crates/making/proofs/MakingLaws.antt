@@ -19,7 +19,7 @@ use Rattle.number.proofs.BigEndianLaws.{be-lt}
 use Rattle.source.specs.declared.Kind.{Kind}
 use Rattle.source.specs.declared.Kind.the-variants.{Format4, Format12, Format14, Unreadable}
 use Rattle.source.specs.Kind.{formatOf}
-use Rattle.source.specs.Header.{offsetOf}
+use Rattle.header.specs.Header.{offsetOf}
 use Rattle.records.specs.Records.{leadsTo}
 use Rattle.mapped4.specs.Mapped4.{maps4, lastSays, segment4}
 use Rattle.listing.specs.Listing.{mapsAs, maps, listed, codesOf, glyphsOf, Lists, Copied}

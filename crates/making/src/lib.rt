@@ -19,7 +19,7 @@ fn size4_of(codes: &[u32], glyphs: &[u16], m: usize) -> format4::Size
     requires { ⌜ Columns4 (take m (now codes)) (take m (now glyphs)) ⌝ }
     ensures { λ r. ⌜ r ≡ sizeOf4 (pairs (take m (now (codes .entry))) (take m (now (glyphs .entry)))) ⌝ }
 {
-    format4::format4_size(&codes[..m], &glyphs[..m])
+    format4_size::format4_size(&codes[..m], &glyphs[..m])
 }
 
 // The size of a format 4 subtable, and how many pairs at the front are all that it is made of; 0 where they are not the first ones.

@@ -1,2 +1,0 @@
-pub mod Mapped12Laws
-pub mod BlocksLaws

@@ -1,2 +1,1 @@
 pub mod Mapped12
-pub mod Blocks

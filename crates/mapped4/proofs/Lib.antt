@@ -1,3 +1,2 @@
 pub mod Mapped4Laws
 pub mod CasesLaws
-pub mod DownwardLaws

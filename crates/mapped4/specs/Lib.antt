@@ -1,3 +1,2 @@
 pub mod Mapped4
 pub mod Cases
-pub mod Downward

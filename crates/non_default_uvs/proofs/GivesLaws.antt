@@ -24,7 +24,7 @@ use Rattle.uvs.specs.Tables.{table}
 use Rattle.uvs.proofs.ReadLaws.{each-row, each-select, stands-front, stands-back, stands-whole, table-back}
 use Rattle.uvs.specs.NonDefault.{mapping, mappingAt, mappings, keepsMapping, keptMappings, mappingBytes, newNonDefault, missing, badMapping}
 use Rattle.non_default_uvs.specs.Gives.{glyphsFor, stayingGlyphs, newGlyph, renumbered, Glyphs}
-use Rattle.non_default_uvs.proofs.MappingLaws.{mapping-size, missing-absent}
+use Rattle.uvs_mapping.proofs.MappingLaws.{mapping-size, missing-absent}
 
 -- ---- mappings read back from their bytes
 

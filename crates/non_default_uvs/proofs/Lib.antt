@@ -1,2 +1,1 @@
-pub mod MappingLaws
 pub mod GivesLaws

@@ -13,8 +13,8 @@ use Rattle.laws.specs.Lists.{laid}
 use Rattle.laws.proofs.ChoiceLaws.{by-pick, by-leb, false-true}
 use Rattle.laws.proofs.SomeLaws.{some-false}
 use Rattle.number.specs.Limits.{recordsMax}
-use Rattle.source.specs.Header.{recordCount}
-use Rattle.source.proofs.HeaderLaws.{accepted-of}
+use Rattle.header.specs.Header.{recordCount}
+use Rattle.header.proofs.HeaderLaws.{accepted-of}
 use Rattle.listing.specs.Job.{Job}
 use Rattle.outcomes.specs.declared.Outcome.{Outcome}
 use Rattle.outcomes.specs.declared.Outcome.the-variants.{NotRetained, Skipped, Empty, TooLong, Covered, BadMapping, Served, Made}

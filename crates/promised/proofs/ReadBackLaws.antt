@@ -12,11 +12,11 @@ use Rattle.laws.specs.Choice.{pick}
 use Rattle.laws.proofs.ChoiceLaws.{false-true, by-leb}
 use Rattle.laws.proofs.StandsLaws.{Stands}
 use Rattle.number.specs.BigEndian.{Bytes}
-use Rattle.source.specs.declared.Header.the-variants.{Records}
-use Rattle.source.specs.Header.{recordCount, platformOf, encodingOf, headerOf}
-use Rattle.source.specs.Header.{offsetOf as offsetAt}
+use Rattle.header.specs.declared.Header.the-variants.{Records}
+use Rattle.header.specs.Header.{recordCount, platformOf, encodingOf, headerOf}
+use Rattle.header.specs.Header.{offsetOf as offsetAt}
 use Rattle.source.specs.Kind.{kindAt, formatOf}
-use Rattle.source.proofs.HeaderLaws.{accepted-of, gives-records}
+use Rattle.header.proofs.HeaderLaws.{accepted-of, gives-records}
 use Rattle.records.specs.Records.{leadsTo}
 use Rattle.listing.specs.Job.{Job}
 use Rattle.outcomes.specs.declared.Outcome.{Outcome}

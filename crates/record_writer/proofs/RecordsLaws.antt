@@ -11,8 +11,8 @@ use lib.Seq.{sets, length-sets}
 use Rattle.laws.proofs.SetsLaws.{sets-append}
 use Rattle.number.specs.BigEndian.{enc, put}
 use Rattle.number.proofs.BigEndianLaws.{length-enc, pow-pos}
-use Rattle.source.specs.declared.EncodingRecord.{EncodingRecord}
-use Rattle.source.specs.Header.{recordOf}
+use Rattle.header.specs.declared.EncodingRecord.{EncodingRecord}
+use Rattle.header.specs.Header.{recordOf}
 use Rattle.listing.specs.Job.{Job}
 use Rattle.outcomes.specs.declared.Outcome.{Outcome}
 use Rattle.outcomes.specs.declared.Outcome.the-variants.{NotRetained}

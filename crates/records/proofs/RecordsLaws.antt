@@ -10,10 +10,10 @@ use Rattle.laws.specs.Choice.{both, either, ifLt}
 use Rattle.laws.proofs.ChoiceLaws.{else-lt}
 use Rattle.laws.proofs.SearchLaws.{Asking, asking-start, asking-on, asking-yes, asking-no}
 use Rattle.source.specs.declared.Kind.{Kind}
-use Rattle.source.specs.declared.EncodingRecord.{EncodingRecord}
-use Rattle.source.specs.declared.Entry.{Entry}
-use Rattle.source.specs.declared.Entry.the-variants.{Record, Missing}
-use Rattle.source.specs.Header.{entryAt, recordOf}
+use Rattle.header.specs.declared.EncodingRecord.{EncodingRecord}
+use Rattle.header.specs.declared.Entry.{Entry}
+use Rattle.header.specs.declared.Entry.the-variants.{Record, Missing}
+use Rattle.header.specs.Header.{entryAt, recordOf}
 use Rattle.source.specs.Kind.{kindAt, formatOf}
 use Rattle.records.specs.Records.{leadsTo, isPair, leadsToFormat, bmpPair, fullPair, retained, isWanted, someRetained, Placed, Counted}
 use Rattle.records.specs.declared.Wanted.{Wanted}

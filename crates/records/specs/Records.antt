@@ -8,7 +8,7 @@ use lib.ListN.{length}
 use Rattle.laws.specs.Choice.{both, either}
 use Rattle.laws.specs.Search.{some}
 use Rattle.source.specs.declared.Kind.{Kind}
-use Rattle.source.specs.Header.{recordCount, platformOf, encodingOf, offsetOf}
+use Rattle.header.specs.Header.{recordCount, platformOf, encodingOf, offsetOf}
 use Rattle.source.specs.Kind.{kindAt, formatOf}
 use Rattle.records.specs.declared.Wanted.{Wanted}
 use Rattle.records.specs.declared.Wanted.the-variants.{Format12, Bmp, Full}

@@ -1,11 +1,11 @@
 // Which records of a source are retained, and whether refusal 6 or 7 is due.
-use source::EncodingRecord;
-use source::Entry;
+use header::EncodingRecord;
+use header::Entry;
 use source::Kind;
 ghost use mathlib.Core.Path.{_≡_};
 ghost use lib.Dec.{eqb};
 ghost use Rattle.laws.specs.Choice.{both};
-ghost use Rattle.source.specs.Header.{recordOf};
+ghost use Rattle.header.specs.Header.{recordOf};
 ghost use Rattle.records.specs.Records.{leadsTo, isPair, leadsToFormat, bmpPair, fullPair, retained, isWanted, someRetained, refused6, refused7, Placed, Counted};
 
 // What refusals 6 and 7 ask of a record: a readable format 12, (0,3) or (3,1), (0,4) or (3,10).
@@ -19,7 +19,7 @@ pub fn encoding_record(s: &[u8], k: usize) -> EncodingRecord
     requires { ⌜ Placed (now s) k ⌝ }
     ensures { λ r. ⌜ r ≡ recordOf (now (s .entry)) k ⌝ }
 {
-    match source::record_at(s, k) {
+    match header::record_at(s, k) {
         Entry::Record(r) => r,
         Entry::Missing => EncodingRecord {
             platform: 0,

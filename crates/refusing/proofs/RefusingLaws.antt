@@ -7,10 +7,10 @@ use native.Mathlib.Omega.{arith}
 use lib.ListN.{length}
 use Rattle.laws.specs.Choice.{pick, ifEq}
 use Rattle.number.specs.BigEndian.{Bytes}
-use Rattle.source.specs.declared.Header.{Header}
-use Rattle.source.specs.declared.Header.the-variants.{Records, Refused}
-use Rattle.source.specs.Header.{recordCount, headerOf}
-use Rattle.source.proofs.HeaderLaws.{accepted-of, not-refused, tells-records, tells-refused}
+use Rattle.header.specs.declared.Header.{Header}
+use Rattle.header.specs.declared.Header.the-variants.{Records, Refused}
+use Rattle.header.specs.Header.{recordCount, headerOf}
+use Rattle.header.proofs.HeaderLaws.{accepted-of, not-refused, tells-records, tells-refused}
 use Rattle.records.specs.Records.{Counted}
 use Rattle.checks.proofs.SizesLaws.{sizes, codes-rise, kept-rise, kept-low, requested-rise}
 use Rattle.listing.specs.Job.{Job, glyphCount}

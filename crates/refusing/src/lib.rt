@@ -61,7 +61,7 @@ fn format_refusal(s: &[u8], m: usize) -> u8
 fn source_refusal(s: &[u8]) -> u8
     ensures { λ r. ⌜ r ≡ sourceRefusal (now (s .entry)) ⌝ }
 {
-    match source::header_of(s) {
+    match header::header_of(s) {
         Header::Refused => 5,
         Header::Records(m) => format_refusal(s, m),
     }

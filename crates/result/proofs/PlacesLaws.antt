@@ -11,8 +11,8 @@ use Rattle.laws.proofs.StandsLaws.{Stands, stands-append, stands-whole, stands-
 use Rattle.number.specs.BigEndian.{enc, Bytes}
 use Rattle.number.proofs.BigEndianLaws.{be-lt, length-enc}
 use Rattle.number.specs.Limits.{recordsMax}
-use Rattle.source.specs.Header.{platformOf, encodingOf, offsetOf as offsetAt}
-use Rattle.source.proofs.HeaderLaws.{Accepted}
+use Rattle.header.specs.Header.{platformOf, encodingOf, offsetOf as offsetAt}
+use Rattle.header.proofs.HeaderLaws.{Accepted}
 use Rattle.number.proofs.StandsLaws.{be-stands-enc}
 use Rattle.source.specs.Kind.{formatOf}
 use Rattle.records.specs.Records.{leadsTo}

@@ -12,7 +12,7 @@ use Rattle.laws.specs.Choice.{pick, either}
 use Rattle.laws.specs.Select.{anyOf}
 use Rattle.laws.proofs.ChoiceLaws.{both-left, both-right, by-pick, by-leb}
 use Rattle.laws.proofs.EitherLaws.{neither-left, neither-right}
-use Rattle.source.specs.Header.{refused5}
+use Rattle.header.specs.Header.{refused5}
 use Rattle.records.specs.Records.{refused6, refused7}
 use Rattle.checks.specs.Checks.{badSizes, badPairs, badKept, badRequested}
 use Rattle.listing.specs.Job.{Job, glyphCount}

@@ -13,7 +13,7 @@ use Rattle.laws.proofs.ChoiceLaws.{both-left, both-right, not-true, by-test}
 use Rattle.laws.proofs.FirstLaws.{first-is}
 use Rattle.number.specs.Limits.{recordsMax}
 use Rattle.source.specs.declared.Kind.the-variants.{Format4, Format12}
-use Rattle.source.specs.Header.{recordCount}
+use Rattle.header.specs.Header.{recordCount}
 use Rattle.source.specs.Kind.{formatOf}
 use Rattle.records.specs.Records.{leadsTo, leadsToFormat}
 use Rattle.listing.specs.Job.{Job}

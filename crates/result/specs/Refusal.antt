@@ -6,7 +6,7 @@ use lib.Dec.{ltb}
 use lib.ListN.{length}
 use Rattle.laws.specs.Choice.{pick, both}
 use Rattle.laws.specs.Select.{anyOf}
-use Rattle.source.specs.Header.{refused5}
+use Rattle.header.specs.Header.{refused5}
 use Rattle.records.specs.Records.{refused6, refused7}
 use Rattle.checks.specs.Checks.{badSizes, badPairs, badKept, badRequested}
 use Rattle.listing.specs.Job.{Job, glyphCount}

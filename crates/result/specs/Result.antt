@@ -6,7 +6,7 @@ use lib.ListN.{getD}
 use Rattle.laws.specs.Choice.{pick, both}
 use Rattle.number.specs.BigEndian.{enc}
 use Rattle.number.specs.Limits.{recordsMax}
-use Rattle.source.specs.Header.{platformOf, encodingOf}
+use Rattle.header.specs.Header.{platformOf, encodingOf}
 use Rattle.records.specs.Records.{leadsToFormat}
 use Rattle.listing.specs.Job.{Job}
 use Rattle.outcomes.specs.declared.Outcome.{Outcome}

@@ -4,8 +4,8 @@ use mathlib.Core.Path.{_≡_, refl}
 use mathlib.Core.List.{List}
 use native.Mathlib.Omega.{arith}
 use lib.ListN.{length}
-use Rattle.source.specs.Header.{recordCount}
-use Rattle.source.proofs.HeaderLaws.{Accepted, accepted-of}
+use Rattle.header.specs.Header.{recordCount}
+use Rattle.header.proofs.HeaderLaws.{Accepted, accepted-of}
 use Rattle.records.specs.Records.{Counted}
 use Rattle.checks.proofs.SizesLaws.{Sizes, sizes}
 use Rattle.listing.specs.Job.{Job, job}

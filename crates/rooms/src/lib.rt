@@ -6,7 +6,7 @@ ghost use mathlib.Core.Path.{_≡_};
 ghost use Prim.Native.Nat.{_≤_};
 ghost use lib.ListN.{length};
 ghost use lib.Seq.{sets};
-ghost use Rattle.source.specs.Header.{recordCount};
+ghost use Rattle.header.specs.Header.{recordCount};
 ghost use Rattle.listing.specs.Job.{job};
 ghost use Rattle.outcomes.specs.Outcomes.{Small};
 ghost use Rattle.plan.specs.Plan.{plan};

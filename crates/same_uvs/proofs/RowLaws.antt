@@ -17,8 +17,8 @@ use Rattle.number.proofs.BigEndianLaws.{length-enc, be-enc-fits}
 use Rattle.number.specs.Limits.{absent}
 use Rattle.uvs.specs.NonDefault.{mapping, mappingAt, mappingBytes, keepsMapping, keptMappings, newNonDefault}
 use Rattle.uvs.proofs.TablesLaws.{eq-table}
-use Rattle.non_default_uvs.specs.Lent.{Table, New}
-use Rattle.non_default_uvs.proofs.MappingLaws.{mapping-size}
+use Rattle.uvs_mapping.specs.Lent.{Table, New}
+use Rattle.uvs_mapping.proofs.MappingLaws.{mapping-size}
 use Rattle.same_uvs.specs.Rows.{staying, sameRows, Row, Stay}
 use Rattle.same_uvs.proofs.CompareLaws.{Comparing, compare-on, compare-off, compare-short, compare-long, compare-end}
 

@@ -18,10 +18,10 @@ use Rattle.number.specs.BigEndian.{be, enc}
 use Rattle.number.proofs.BigEndianLaws.{length-enc}
 use Rattle.uvs.specs.Default.{coveredBy, follow, longest, rangeBytes, newRecords, newDefault}
 use Rattle.uvs.proofs.TablesLaws.{eq-table}
-use Rattle.default_uvs.specs.Stream.{Lent, Point, Start, Next, points, records, mostOf}
-use Rattle.default_uvs.proofs.BitsLaws.{most-few}
+use Rattle.default_ranges.specs.Stream.{Lent, Point, Start, Next, points, records, mostOf}
+use Rattle.default_ranges.proofs.BitsLaws.{most-few}
 use Rattle.default_uvs.proofs.NewLaws.{records-new}
-use Rattle.default_uvs.proofs.StreamLaws.{Standing, standing-start, standing-on, start-here, records-end, range-size, points-yes}
+use Rattle.default_ranges.proofs.StreamLaws.{Standing, standing-start, standing-on, start-here, records-end, range-size, points-yes}
 use Rattle.same_uvs.specs.Streams.{CodePoints, Fits, Flagging, sameRanges}
 use Rattle.same_uvs.proofs.CompareLaws.{Comparing, compare-on, compare-off, compare-short, compare-long, compare-end}
 use Rattle.same_uvs.proofs.RowLaws.{eq-enc}

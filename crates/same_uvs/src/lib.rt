@@ -4,11 +4,11 @@ ghost use Prim.Native.Nat.{_+_, _≤_};
 ghost use lib.ListN.{length};
 ghost use Rattle.laws.specs.Select.{eqList};
 ghost use Rattle.uvs.specs.NonDefault.{mapping, mappingBytes, newNonDefault};
-ghost use Rattle.non_default_uvs.specs.Lent.{Table};
+ghost use Rattle.uvs_mapping.specs.Lent.{Table};
 ghost use lib.Seq.{sets};
 ghost use Rattle.marks.specs.Marks.{flagged};
 ghost use Rattle.uvs.specs.Default.{coveredBy, rangeBytes, newDefault};
-ghost use Rattle.default_uvs.specs.Stream.{Lent};
+ghost use Rattle.default_ranges.specs.Stream.{Lent};
 ghost use Rattle.same_uvs.specs.Streams.{CodePoints, Fits, Flagging, sameRanges};
 ghost use Rattle.same_uvs.specs.Rows.{sameRows, Row, Stay};
 
@@ -35,7 +35,7 @@ fn next_mapping(
     let mut j = i;
     let mut place = near;
     while j < m {
-        let found = non_default_uvs::keeps_mapping(s, p + 4 + 5 * j, kept, requested, place);
+        let found = staying::keeps_mapping(s, p + 4 + 5 * j, kept, requested, place);
         place = found.near;
         if found.stays {
             return Stop {
@@ -57,8 +57,8 @@ fn same_mapping(s: &[u8], a: usize, b: usize, map: &[u16]) -> bool
     ensures { λ r. ⌜ r ≡ eqList (mappingBytes (now (map .entry)) (mapping (now (s .entry)) a)) (mappingBytes (now (map .entry)) (mapping (now (s .entry)) b)) ⌝ }
 {
     if number::u24_at(s, a) == number::u24_at(s, b) {
-        let first = non_default_uvs::new_glyph(map, number::u16_at(s, a + 3));
-        let second = non_default_uvs::new_glyph(map, number::u16_at(s, b + 3));
+        let first = uvs_mapping::new_glyph(map, number::u16_at(s, a + 3));
+        let second = uvs_mapping::new_glyph(map, number::u16_at(s, b + 3));
         return first == second;
     }
     false
@@ -139,14 +139,14 @@ fn same_ranges(kept: &[u32], first: &[u8], most: u32, second: &[u8], limit: u32)
     requires { ⌜ Flagging (now kept) (now second) limit ⌝ }
     ensures { λ r. ⌜ r ≡ sameRanges (now (kept .entry)) (now (first .entry)) most (now (second .entry)) limit ⌝ }
 {
-    let mut i = default_uvs::next_point(kept, first, 0);
-    let mut j = default_uvs::next_point(kept, second, 0);
+    let mut i = default_ranges::next_point(kept, first, 0);
+    let mut j = default_ranges::next_point(kept, second, 0);
     while i < kept.len() {
         if kept.len() <= j {
             return false;
         }
-        let a = default_uvs::next_range(kept, first, i, most);
-        let b = default_uvs::next_range(kept, second, j, limit);
+        let a = default_ranges::next_range(kept, first, i, most);
+        let b = default_ranges::next_range(kept, second, j, limit);
         if same_range(kept[i], a.additional, kept[j], b.additional) {
             i = a.next;
             j = b.next;

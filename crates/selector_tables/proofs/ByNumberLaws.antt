@@ -20,8 +20,8 @@ use Rattle.uvs.specs.Checksum.{gathered, checksum}
 use Rattle.uvs.specs.Default.{newDefault}
 use Rattle.uvs.specs.NonDefault.{newNonDefault, badMapping}
 use Rattle.uvs.proofs.TablesLaws.{counts-head, counts-inside}
-use Rattle.default_uvs.specs.Stream.{Lent}
-use Rattle.non_default_uvs.specs.Lent.{Table}
+use Rattle.default_ranges.specs.Stream.{Lent}
+use Rattle.uvs_mapping.specs.Lent.{Table}
 use Rattle.selector_tables.proofs.ShapeLaws.{length-default, length-non-default, tables-apart}
 use Rattle.selector_tables.specs.Selectors.{Given, given, keepsSelector, defaultTable, nonDefaultTable, badRecord, badKept}
 use Rattle.selector_tables.specs.ByNumber.{slot, badSlot, tableOffset, sourceTable, Source, Readable, Numbered, Size, Both}

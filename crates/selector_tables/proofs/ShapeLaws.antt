@@ -13,8 +13,8 @@ use Rattle.uvs.specs.Tables.{table}
 use Rattle.uvs.specs.Default.{newDefault, newRecords, rangeBytes}
 use Rattle.uvs.specs.NonDefault.{newNonDefault, keptMappings, keepsMapping, mappings, mappingAt, mappingBytes}
 use Rattle.default_uvs.proofs.CoversLaws.{length-records}
-use Rattle.default_uvs.proofs.StreamLaws.{range-size}
-use Rattle.non_default_uvs.proofs.MappingLaws.{mapping-size}
+use Rattle.default_ranges.proofs.StreamLaws.{range-size}
+use Rattle.uvs_mapping.proofs.MappingLaws.{mapping-size}
 
 -- ---- tables of records of one size
 

@@ -1,3 +1,2 @@
-pub mod HeaderLaws
 pub mod KindLaws
 pub mod StandsLaws

@@ -1,4 +1,3 @@
-pub mod Header
 pub mod Kind
 pub mod Fields
 pub mod Room

@@ -6,7 +6,7 @@ use mathlib.Core.Bool.{true}
 use native.Mathlib.Omega.{arith}
 use lib.ListN.{length}
 use Rattle.laws.proofs.ChoiceLaws.{by-leb, false-true}
-use Rattle.source.specs.Header.{recordCount}
+use Rattle.header.specs.Header.{recordCount}
 use Rattle.listing.specs.Job.{Job}
 use Rattle.outcomes.specs.declared.Outcome.{Outcome}
 use Rattle.outcomes.specs.declared.Outcome.the-variants.{NotRetained, Skipped, Empty, TooLong, Covered, BadMapping, Served, Made}

@@ -9,7 +9,7 @@ use Rattle.laws.specs.Lists.{Pair}
 use Rattle.number.specs.BigEndian.{be}
 use Rattle.source.specs.declared.Kind.{Kind}
 use Rattle.source.specs.declared.Kind.the-variants.{Format4, Format12, Format14, Unreadable}
-use Rattle.source.specs.Header.{offsetOf}
+use Rattle.header.specs.Header.{offsetOf}
 use Rattle.records.specs.Records.{leadsTo}
 use Rattle.listing.specs.Job.{Job, job}
 use Rattle.listing.specs.Listing.{listed}

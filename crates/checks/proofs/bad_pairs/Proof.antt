@@ -1,5 +1,5 @@
 -- What does not fall rises, so the last is the greatest.
-use Rattle.checks.proofs.ChecksLaws.{rising-told}
+use Rattle.order.proofs.OrderLaws.{rising-told}
 use Rattle.laws.proofs.ChoiceLaws.{one-of}
 use borrow.Author.Needs.{needs}
 use Rattle.checks.proofs.bad_pairs.Statement.{statement}

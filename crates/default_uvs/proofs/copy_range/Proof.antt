@@ -1,5 +1,5 @@
 -- The byte of the points behind is written right behind the start.
-use Rattle.default_uvs.proofs.StreamLaws.{range-is}
+use Rattle.default_ranges.proofs.StreamLaws.{range-is}
 use borrow.Author.Needs.{needs}
 use Rattle.default_uvs.proofs.copy_range.Statement.{statement}
 use Rattle.default_uvs.proofs.copy_range.Tie as tie

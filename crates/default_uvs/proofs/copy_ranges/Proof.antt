@@ -5,7 +5,7 @@ use borrow.Author.Needs.{needs}
 use native.Mathlib.Omega.{arith}
 use Prim.Native.Nat.{_-_}
 use lib.ListN.{length}
-use Rattle.default_uvs.proofs.StreamLaws.{Counted, counted, Written, written, written-room}
+use Rattle.default_ranges.proofs.StreamLaws.{Counted, counted, Written, written, written-room}
 
 abbrev Inv-loop : tie.InvT-loop
 Inv-loop out₀ to kept flags most i₀ n₀ out i n = Counted most kept flags i n × Written most kept flags out₀ to out i n

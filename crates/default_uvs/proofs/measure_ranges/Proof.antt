@@ -5,7 +5,7 @@ use borrow.Author.Needs.{needs}
 use native.Mathlib.Omega.{arith}
 use Prim.Native.Nat.{_-_}
 use lib.ListN.{length}
-use Rattle.default_uvs.proofs.StreamLaws.{Counted, counted, Summed, summed}
+use Rattle.default_ranges.proofs.StreamLaws.{Counted, counted, Summed, summed}
 
 abbrev Inv-loop : tie.InvT-loop
 Inv-loop kept flags most i₀ n₀ sum₀ i n sum = Counted most kept flags i n × Summed most kept flags i sum

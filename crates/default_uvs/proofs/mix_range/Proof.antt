@@ -2,7 +2,7 @@
 use borrow.Author.Needs.{needs}
 use Rattle.default_uvs.proofs.mix_range.Statement.{statement}
 use Rattle.default_uvs.proofs.mix_range.Tie as tie
-use Rattle.default_uvs.proofs.StreamLaws.{mix-range-is}
+use Rattle.default_ranges.proofs.StreamLaws.{mix-range-is}
 
 mul-record : tie.Need-mul-record
 mul-record c = search needs

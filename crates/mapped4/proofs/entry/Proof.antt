@@ -12,34 +12,34 @@ unfolding entry4
 returns c = if-lt _ _ _ _ (omega arith) refl
 
 add-index : tie.Need-add-index
-add-index c = search needs
+add-index c = omega arith
 
 sub-index : tie.Need-sub-index
-sub-index c = search needs
+sub-index c = omega arith
 
 mul-if2 : tie.Need-mul-if2
-mul-if2 c = search needs
+mul-if2 c = omega arith
 
 add-if2 : tie.Need-add-if2
-add-if2 c = search needs
+add-if2 c = omega arith
 
 sub-if2 : tie.Need-sub-if2
-sub-if2 c = search needs
+sub-if2 c = omega arith
 
 add-u16-at : tie.Need-add-u16-at
-add-u16-at c = search needs
+add-u16-at c = omega arith
 
 mul-u16-at : tie.Need-mul-u16-at
-mul-u16-at c = search needs
+mul-u16-at c = omega arith
 
 add-u16-at-2 : tie.Need-add-u16-at-2
-add-u16-at-2 c = search needs
+add-u16-at-2 c = omega arith
 
 mul-u16-at-2 : tie.Need-mul-u16-at-2
-mul-u16-at-2 c = search needs
+mul-u16-at-2 c = omega arith
 
 add-u16-at-3 : tie.Need-add-u16-at-3
-add-u16-at-3 c = search needs
+add-u16-at-3 c = omega arith
 
 u16-at-requires : tie.Need-u16-at-requires
 u16-at-requires c κs = search needs

@@ -9,7 +9,7 @@ use Rattle.mapped4.proofs.segment_maps.Statement.{statement}
 use Rattle.mapped4.proofs.segment_maps.Tie as tie
 
 add-result : tie.Need-add-result
-add-result c = search needs
+add-result c = omega arith
 
 returns : tie.Need-returns
 unfolding says4
@@ -19,10 +19,10 @@ cast-place : tie.Need-cast-place
 cast-place c = search needs
 
 add-place : tie.Need-add-place
-add-place c = search needs
+add-place c = omega arith
 
 sub-away : tie.Need-sub-away
-sub-away c = search needs
+sub-away c = omega arith
 
 cast-away : tie.Need-cast-away
 cast-away c = search needs

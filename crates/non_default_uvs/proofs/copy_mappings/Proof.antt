@@ -6,7 +6,7 @@ use native.Mathlib.Omega.{arith}
 use Prim.Native.Nat.{_-_}
 use Rattle.laws.proofs.SelectLaws.{Counting, counting}
 use Rattle.uvs.specs.NonDefault.{mappingAt, keepsMapping}
-use Rattle.non_default_uvs.proofs.MappingLaws.{Copies, copies, copies-room, count-all}
+use Rattle.uvs_mapping.proofs.MappingLaws.{Copies, copies, copies-room, count-all}
 
 abbrev Inv-loop : tie.InvT-loop
 Inv-loop out₀ to s p kept map requested m i₀ near₀ n₀ out i near n = Counting (keepsMapping kept requested) (mappingAt s p) m i n × Copies s p kept map requested m out₀ to out n i

@@ -6,7 +6,7 @@ use native.Mathlib.Omega.{arith}
 use Prim.Native.Nat.{_-_}
 use Rattle.laws.proofs.SelectLaws.{Counting, counting}
 use Rattle.uvs.specs.NonDefault.{mappingAt, mappingBytes, keepsMapping}
-use Rattle.non_default_uvs.proofs.MappingLaws.{Judging, judging, lengths, sum-all}
+use Rattle.uvs_mapping.proofs.MappingLaws.{Judging, judging, lengths, sum-all}
 use Rattle.uvs.proofs.ChecksumLaws.{Summing, summing-start, summing}
 use lib.ListN.{length-append}
 use Rattle.number.proofs.BigEndianLaws.{length-enc}

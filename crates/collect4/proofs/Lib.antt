@@ -1,0 +1,2 @@
+pub mod CollectLaws
+pub mod DownLaws

@@ -1,0 +1,38 @@
+-- The stretch from the start to as many points behind it as the byte says.
+use borrow.Author.Needs.{needs}
+use Rattle.covered_points.proofs.mark_range.Statement.{statement}
+use Rattle.covered_points.proofs.mark_range.Tie as tie
+use Rattle.covered_points.proofs.CoverLaws.{mark-is}
+
+u24-at-requires : tie.Need-u24-at-requires
+u24-at-requires c κs = search needs
+
+add-byte-at : tie.Need-add-byte-at
+add-byte-at c = search needs
+
+byte-at-requires : tie.Need-byte-at-requires
+byte-at-requires c κs = search needs
+
+add-mark-points-near : tie.Need-add-mark-points-near
+add-mark-points-near c = search needs
+
+mark-points-near-requires : tie.Need-mark-points-near-requires
+mark-points-near-requires c κs = search needs
+
+same-length : tie.Need-same-length
+same-length c = search needs
+
+returns : tie.Need-returns
+returns c = mark-is _ _ _ _ _ _ _ (c .before .before .before .before .before .u24-at .ensures) (c .before .before .before .before .byte-at .ensures) (c .before .before .mark-points-near .ensures .1)
+
+pub mark-range-spec : {M : Type 1} → statement M
+mark-range-spec =
+    tie.close
+    (tie.spec
+    u24-at-requires
+    add-byte-at
+    byte-at-requires
+    add-mark-points-near
+    mark-points-near-requires
+    same-length
+    returns)

@@ -1,0 +1,50 @@
+-- The lists answer as they hold, and the two answers are joined as the definition joins them; an empty list holds nothing.
+use Rattle.staying.proofs.keeps_mapping.Statement.{statement}
+use Rattle.staying.proofs.keeps_mapping.Tie as tie
+use Rattle.staying.proofs.StayingLaws.{keeps-rules}
+use borrow.Author.Needs.{needs}
+
+u24-at-requires : tie.Need-u24-at-requires
+u24-at-requires c κs = search needs
+
+count-at-requires : tie.Need-count-at-requires
+count-at-requires c κs = search needs
+
+stands-at-requires : tie.Need-stands-at-requires
+stands-at-requires c κs = search needs
+
+returns : tie.Need-returns
+returns c = search keeps-rules
+
+returns-2 : tie.Need-returns-2
+returns-2 c = search keeps-rules
+
+add-u16-at : tie.Need-add-u16-at
+add-u16-at c = search needs
+
+u16-at-requires : tie.Need-u16-at-requires
+u16-at-requires c κs = search needs
+
+cast-member-glyph : tie.Need-cast-member-glyph
+cast-member-glyph c = search needs
+
+member-glyph-requires : tie.Need-member-glyph-requires
+member-glyph-requires c κs = search needs
+
+returns-3 : tie.Need-returns-3
+returns-3 c = search keeps-rules
+
+pub keeps-mapping-spec : {M : Type 1} → statement M
+keeps-mapping-spec =
+    tie.close
+    (tie.spec
+    u24-at-requires
+    count-at-requires
+    stands-at-requires
+    returns
+    returns-2
+    add-u16-at
+    u16-at-requires
+    cast-member-glyph
+    member-glyph-requires
+    returns-3)
