@@ -8,7 +8,7 @@ use Rattle.laws.proofs.TakeLaws.{take-counts}
 use Rattle.listing.specs.Job.{Job, job}
 use Rattle.job_input.specs.declared.Places.{Places}
 use Rattle.job_input.specs.Job.{jobAt}
-use Rattle.job_input.specs.Room.{Front, Lent}
+use Rattle.job_lists.specs.Lent.{Front, Lent}
 use Rattle.promised.specs.declared.Answer.{Answer}
 use Rattle.promised.specs.Cmap.{answerOf, outputOf}
 

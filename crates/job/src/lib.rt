@@ -10,7 +10,7 @@ use promised::Answer;
 ghost use mathlib.Core.Path.{_≡_};
 ghost use lib.ListN.{length};
 ghost use Rattle.job_input.specs.Job.{parse, jobAt};
-ghost use Rattle.job_input.specs.Room.{Lent};
+ghost use Rattle.job_lists.specs.Lent.{Lent};
 ghost use Rattle.job_output.specs.Output.{written, Parts};
 ghost use Rattle.promised.specs.Cmap.{answerOf, outputOf};
 ghost use Rattle.replies.specs.Answered.{room, answered, replyTo, leftBy};
@@ -86,7 +86,7 @@ pub fn answer(bytes: &[u8], out: &mut [u8; 32768]) -> Reply
     let mut kept = [0u32; KEPT_MAX];
     let mut map = [0u16; MAP_MAX];
     let mut requested = [0u16; REQUESTED_MAX];
-    let located = job_input::take_apart(
+    let located = job_lists::take_apart(
         bytes,
         &mut codes,
         &mut glyphs,

@@ -1,6 +1,5 @@
 pub mod JobLaws
 pub mod ColumnLaws
-pub mod RoomLaws
 pub mod CasesLaws
 pub mod BytesLaws
 pub mod OnlyBytesLaws

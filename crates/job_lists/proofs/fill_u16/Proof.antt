@@ -1,10 +1,10 @@
 -- What is left to copy, copied from here, gives the whole column.
-use Rattle.job_input.proofs.ColumnLaws.{Filling, filling, fits-at}
+use Rattle.job_lists.proofs.FillingLaws.{Filling, filling, fits-at}
 use native.Mathlib.Omega.{arith}
 use borrow.Author.Needs.{needs}
 use Prim.Native.Nat.{_-_}
-use Rattle.job_input.proofs.fill_u16.Statement.{statement}
-use Rattle.job_input.proofs.fill_u16.Tie as tie
+use Rattle.job_lists.proofs.fill_u16.Statement.{statement}
+use Rattle.job_lists.proofs.fill_u16.Tie as tie
 
 abbrev Inv-loop : tie.InvT-loop
 Inv-loop s at stride n out₀ i₀ out i = Filling 2 stride s at n out₀ out i

@@ -7,13 +7,13 @@ use lib.ListN.{length}
 use lib.Seq.{sets, length-sets}
 use Rattle.laws.proofs.SetsLaws.{take-sets}
 use Rattle.listing.specs.Job.{Job}
 use Rattle.job_input.specs.declared.Places.{Places}
 use Rattle.job_input.specs.declared.Located.the-variants.{At}
 use Rattle.job_input.specs.Column.{column}
 use Rattle.job_input.specs.Job.{located, jobAt, parse, jobOf}
-use Rattle.job_input.specs.Room.{Front, Lent}
+use Rattle.job_lists.specs.Lent.{Front, Lent}
 use Rattle.job_input.proofs.ColumnLaws.{length-column}
 use Rattle.job_input.proofs.JobLaws.{placed, job-at}
 
 module _ (w stride : ℕ) (xs : List ℕ) (at n : ℕ) (buffer : List ℕ) where
   front-column : n ≤ length buffer → Front n (sets buffer 0 (column w stride xs at n)) (column w stride xs at n)

@@ -1,9 +1,9 @@
 -- Records that stand have their payloads inside the bytes and the limits, so each column is copied whole.
 use Rattle.job_input.proofs.JobLaws.{placed}
 use mathlib.Core.Path.{sym, _∙_}
 use borrow.Author.Needs.{needs}
-use Rattle.job_input.proofs.take_apart.Statement.{statement}
-use Rattle.job_input.proofs.take_apart.Tie as tie
+use Rattle.job_lists.proofs.take_apart.Statement.{statement}
+use Rattle.job_lists.proofs.take_apart.Tie as tie
 
 locate-requires : tie.Need-locate-requires
 locate-requires c κs = search needs

@@ -1,0 +1,2 @@
+pub mod FillingLaws
+pub mod LentLaws
