@@ -6,7 +6,7 @@ use native.Mathlib.Omega.{arith}
 use lib.ListN.{length}
 use Rattle.source.specs.declared.Kind.{Kind}
 use Rattle.source.specs.declared.Kind.the-variants.{Format4, Format12, Format14, Unreadable}
-use Rattle.source.specs.Header.{offsetOf}
+use Rattle.header.specs.Header.{offsetOf}
 use Rattle.source.specs.Kind.{formatOf}
 use Rattle.source.proofs.KindLaws.{tells14}
 use Rattle.records.specs.Records.{leadsTo}

@@ -12,7 +12,7 @@ use Rattle.laws.proofs.ChoiceLaws.{by-test}
 use Rattle.number.specs.BigEndian.{be}
 use Rattle.source.specs.declared.Kind.{Kind}
 use Rattle.source.specs.declared.Kind.the-variants.{Format4, Format12, Format14, Unreadable}
-use Rattle.source.specs.Header.{offsetOf}
+use Rattle.header.specs.Header.{offsetOf}
 use Rattle.source.specs.Kind.{formatOf}
 use Rattle.records.specs.Records.{leadsTo}
 use Rattle.listing.specs.Job.{Job, job}

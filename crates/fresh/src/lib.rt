@@ -141,7 +141,7 @@ pub fn fresh(
             length: _,
         } => fresh12(s, k, n, codes, glyphs, flags, tocodes, toglyphs, fronts),
         Kind::Format14 { records: _, length } => {
-            let at = source::offset_of(s, k);
+            let at = header::offset_of(s, k);
             fresh14(s, at, length, kept, map, requested, flags, others, ends)
         }
         Kind::Unreadable => Outcome::Skipped,

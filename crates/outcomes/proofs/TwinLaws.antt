@@ -6,8 +6,8 @@ use mathlib.Core.Bool.{Bool, true, false}
 use lib.Dec.{eqb}
 use lib.ListN.{getD}
 use Rattle.laws.proofs.SearchLaws.{Finding, looking-start, looks}
-use Rattle.source.specs.declared.EncodingRecord.{EncodingRecord}
-use Rattle.source.specs.Header.{platformOf, encodingOf, offsetOf, recordOf}
+use Rattle.header.specs.declared.EncodingRecord.{EncodingRecord}
+use Rattle.header.specs.Header.{platformOf, encodingOf, offsetOf, recordOf}
 use Rattle.records.specs.Records.{isPair}
 use Rattle.outcomes.specs.declared.Outcome.{Outcome}
 use Rattle.outcomes.specs.declared.Outcome.the-variants.{NotRetained}

@@ -6,7 +6,7 @@ use lib.Dec.{eqb}
 use lib.ListN.{getD}
 use Rattle.laws.specs.Choice.{both}
 use Rattle.laws.specs.Search.{first}
-use Rattle.source.specs.Header.{platformOf, encodingOf, offsetOf}
+use Rattle.header.specs.Header.{platformOf, encodingOf, offsetOf}
 use Rattle.records.specs.Records.{isPair}
 use Rattle.outcomes.specs.declared.Outcome.{Outcome}
 use Rattle.outcomes.specs.declared.Outcome.the-variants.{NotRetained, Skipped, Empty, TooLong, Covered, BadMapping, Served, Made}

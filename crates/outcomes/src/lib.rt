@@ -113,7 +113,7 @@ fn is_twin(s: &[u8], k: usize, r: usize) -> bool
 {
     let record = records::encoding_record(s, k);
     if records::is_pair(s, r, record.platform, record.encoding) {
-        return source::offset_of(s, r) == record.offset;
+        return header::offset_of(s, r) == record.offset;
     }
     false
 }
@@ -141,7 +141,7 @@ fn is_spent(s: &[u8], os: [Outcome; 64], k: usize, r: usize) -> bool
 {
     let o = os[r];
     if came_to_nothing(o) {
-        return source::offset_of(s, r) == source::offset_of(s, k);
+        return header::offset_of(s, r) == header::offset_of(s, k);
     }
     false
 }

@@ -5,7 +5,7 @@ use mathlib.Core.List.{List, [], _∷_}
 use native.Mathlib.Numerals.{add-one}
 use native.Mathlib.Omega.{arith}
 use lib.ListN.{length, getD, set, replicate, length-set}
-use Rattle.source.specs.Header.{recordCount}
+use Rattle.header.specs.Header.{recordCount}
 use Rattle.records.proofs.RecordsLaws.{placed}
 use Rattle.covering.specs.Covered.{Rooms}
 use Rattle.listing.specs.Job.{Job, glyphCount}

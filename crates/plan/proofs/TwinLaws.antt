@@ -11,9 +11,10 @@ use Rattle.laws.specs.Choice.{both}
 use Rattle.laws.specs.Select.{select, anyOf, eqList}
 use Rattle.laws.proofs.ChoiceLaws.{both-left, both-right, false-true}
 use Rattle.laws.proofs.FirstLaws.{first-ext, first-holds}
-use Rattle.source.specs.Header.{recordCount, platformOf, encodingOf, offsetOf}
+use Rattle.header.specs.Header.{recordCount, platformOf, encodingOf, offsetOf}
 use Rattle.records.specs.Records.{leadsTo, bmpPair, fullPair, retained}
-use Rattle.covering.specs.Covered.{isSibling, firstSibling, reachesAbove, mapAlike, siblingCovers, covered}
+use Rattle.sibling.specs.Sibling.{isSibling, firstSibling}
+use Rattle.covering.specs.Covered.{reachesAbove, mapAlike, siblingCovers, covered}
 use Rattle.listing.specs.Job.{Job, job, glyphCount}
 use Rattle.listing.specs.Listing.{maps}
 use Rattle.outcomes.specs.declared.Outcome.{Outcome}

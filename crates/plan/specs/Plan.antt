@@ -10,7 +10,7 @@ use Rattle.laws.specs.Choice.{pick, both, either}
 use Rattle.laws.specs.Lists.{Rising}
 use Rattle.laws.specs.Search.{some}
 use Rattle.number.specs.Limits.{recordsMax, pairsMax, sourceMax, keptMax}
-use Rattle.source.specs.Header.{recordCount}
+use Rattle.header.specs.Header.{recordCount}
 use Rattle.records.specs.Records.{leadsToFormat, retained, Counted}
 use Rattle.listing.specs.Job.{Job, glyphCount}
 use Rattle.listing.specs.Listing.{Columns}

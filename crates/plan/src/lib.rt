@@ -6,7 +6,7 @@ ghost use Prim.Native.Nat.{_≤_};
 ghost use lib.ListN.{length};
 ghost use Rattle.covering.specs.Covered.{covered, Rooms};
 ghost use Rattle.listing.specs.Job.{job};
-ghost use Rattle.source.specs.Header.{recordCount};
+ghost use Rattle.header.specs.Header.{recordCount};
 ghost use Rattle.records.specs.Records.{retained};
 ghost use Rattle.outcomes.specs.Outcomes.{Short, Small};
 ghost use Rattle.fresh.specs.Fresh.{fresh, Ready};

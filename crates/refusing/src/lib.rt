@@ -1,6 +1,6 @@
 // Refusals 1 to 9 in their order: 1 to 7 of what is lent, 8 and 9 of the plan.
+use header::Header;
 use outcomes::Outcome;
-use source::Header;
 ghost use mathlib.Core.Path.{_≡_};
 ghost use Prim.Native.Nat.{_≤_};
 ghost use Rattle.laws.specs.Choice.{ifEq};

@@ -2,7 +2,7 @@
 use Prim.Native.Nat.{ℕ}
 use mathlib.Core.Path.{_≡_}
 use mathlib.Core.List.{List}
-use Rattle.source.specs.Header.{recordCount}
+use Rattle.header.specs.Header.{recordCount}
 use Rattle.listing.specs.Job.{Job, glyphCount}
 use Rattle.outcomes.specs.declared.Outcome.{Outcome}
 use Rattle.fresh.specs.Notes.{Fronted}

@@ -74,7 +74,7 @@ fn write_table(
             front,
         ),
         Kind::Format14 { records: _, length } => {
-            let at = source::offset_of(s, k);
+            let at = header::offset_of(s, k);
             format14::serialize(
                 out,
                 place,
