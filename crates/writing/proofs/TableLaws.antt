@@ -59,8 +59,8 @@ module _ (xs : List ℕ) (k : ℕ) (kind : Kind) (q : kind ≡ leadsTo xs k) (cs
     table-14 : tableOf j k ≡ format14 (rows (given xs at len kept map requested))
     table-14 = rw p (table-is j k (Format14 n len) (sym q ∙ e))
 
-    pub room-14 : (l : ℕ) → Room j k place size l → (size ≡ lengthOf (rows (given xs at len kept map requested))) × (place + size ≤ l)
-    room-14 l r = (made-length j k size (r .is) ∙ ap length table-14 ∙ length-format14 (rows (given xs at len kept map requested)), r .fits)
+    pub size-14 : (l : ℕ) → Room j k place size l → size ≡ lengthOf (rows (given xs at len kept map requested))
+    size-14 l r = made-length j k size (r .is) ∙ ap length table-14 ∙ length-format14 (rows (given xs at len kept map requested))
 
     pub ends-14 : (fronts ends : List ℕ) → Known j k fronts ends → Ends (slot (given xs at len kept map requested)) (2 * be 4 xs (at + 6)) ends
     ends-14 fronts ends w = rw p (w .ended .is n len (sym q ∙ e))
@@ -75,4 +75,4 @@ pub front-of : (xs cs gs kept map requested : List ℕ) (k : ℕ) (fronts ends :
     → Fronts xs (length map) cs gs k (getD fronts k 0)
 front-of xs cs gs kept map requested k fronts ends w = w .fronted .each k
 
-pub ruleset tables = (front-of, ends-14, leads4, readable14, fits-4, wrote-4, room-12, wrote-12, room-14, wrote-14, wrote-none)
+pub ruleset tables = (front-of, ends-14, leads4, readable14, fits-4, wrote-4, room-12, wrote-12, size-14, wrote-14, wrote-none)

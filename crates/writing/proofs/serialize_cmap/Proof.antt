@@ -11,7 +11,7 @@ serialize-encoding-records-requires : tie.Need-serialize-encoding-records-requir
 serialize-encoding-records-requires c κs = (search whole, search whole)
 
 write-tables-requires : tie.Need-write-tables-requires
-write-tables-requires c κs = search needs
+write-tables-requires c κs = (search needs, (search needs, search needs))
 
 same-length : tie.Need-same-length
 same-length c = search needs

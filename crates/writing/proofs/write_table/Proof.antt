@@ -7,6 +7,12 @@ use Rattle.writing.proofs.write_table.Tie as tie
 cast-n : tie.Need-cast-n
 cast-n c = search needs
 
+mul-front : tie.Need-mul-front
+mul-front c = search needs
+
+shared-slice-read-front : tie.Need-shared-slice-read-front
+shared-slice-read-front c = search needs
+
 leads-to-requires : tie.Need-leads-to-requires
 leads-to-requires c κs = search needs
 
@@ -29,7 +35,7 @@ offset-of-requires : tie.Need-offset-of-requires
 offset-of-requires c κs = search needs
 
 serialize-requires : tie.Need-serialize-requires
-serialize-requires c κs = (search tables, (search needs, (search tables, search tables)))
+serialize-requires c κs = (search tables, (search needs, (search tables, (search tables, search needs))))
 
 enum-told : tie.Need-enum-told
 enum-told c = search needs
@@ -67,6 +73,9 @@ returns-2 c = search tables
 same-length-9 : tie.Need-same-length-9
 same-length-9 c = search needs
 
+same-length-10 : tie.Need-same-length-10
+same-length-10 c = search needs
+
 returns-3 : tie.Need-returns-3
 returns-3 c = search tables
 
@@ -78,6 +87,8 @@ write-table-spec =
     tie.close
     (tie.spec
     cast-n
+    mul-front
+    shared-slice-read-front
     leads-to-requires
     enum-known-language
     write4-requires
@@ -98,5 +109,6 @@ write-table-spec =
     same-length-8
     returns-2
     same-length-9
+    same-length-10
     returns-3
     returns-4)

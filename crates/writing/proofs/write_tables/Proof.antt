@@ -1,5 +1,5 @@
 -- What is left of the tables, written from here, gives them all.
-use Rattle.writing.proofs.TablesLaws.{Tabling, tabling, tabling-ready, tabling-room, tabling-low}
+use Rattle.writing.proofs.TablesLaws.{Tabling, tabling, tabling-ready, tabling-room, tabling-low, tabling-known}
 use Rattle.listing.specs.Job.{job}
 use native.Mathlib.Omega.{arith}
 use borrow.Author.Needs.{needs}
