@@ -17,8 +17,8 @@ use Rattle.result.proofs.RefusalLaws.{refusal-early, refusal-late}
 use Rattle.promised.specs.declared.Fate.{Fate}
 use Rattle.promised.specs.declared.FateKind.the-variants.{Refused}
 use Rattle.promised.specs.Fates.{noFate, fateOf}
-use Rattle.rooms.specs.Rooms.{Planned}
-use Rattle.rooms.proofs.RoomsLaws.{header, passes, planned}
+use Rattle.concluding.specs.Concluding.{Planned}
+use Rattle.concluding.proofs.PassingLaws.{header, passes, planned}
 use Rattle.fates.specs.Found.{fateBy, Found}
 
 module _ (s cs gs ks ms rs : List ℕ) (os : List Outcome) (p : Planned (job s cs gs ks ms rs) os) where

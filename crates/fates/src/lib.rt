@@ -52,7 +52,7 @@ pub fn fate_by(s: &[u8], os: [Outcome; 64], k: usize) -> Fate
     requires { ⌜ Found (now s) os ⌝ }
     ensures { λ r. ⌜ r ≡ fateBy (now (s .entry)) os k ⌝ }
 {
-    let m = rooms::record_count(s);
+    let m = concluding::record_count(s);
     let late = refusing::late_refusal(s, m, os);
     if 0 < late {
         return no_fate(FateKind::Refused(late));

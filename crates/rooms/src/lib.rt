@@ -1,18 +1,18 @@
-// The plan of a job and its result, made in work room of their own.
+// A job worked out in work room of its own: its plan is made, and its result written where nothing refuses it.
 use number::limits::KEPT_MAX;
 use number::limits::PAIRS_MAX;
 use outcomes::Outcome;
+use promised::Answer;
 ghost use mathlib.Core.Path.{_≡_};
-ghost use Prim.Native.Nat.{_≤_};
 ghost use lib.ListN.{length};
-ghost use lib.Seq.{sets};
 ghost use Rattle.header.specs.Header.{recordCount};
 ghost use Rattle.listing.specs.Job.{job};
 ghost use Rattle.outcomes.specs.Outcomes.{Small};
-ghost use Rattle.plan.specs.Plan.{plan};
-ghost use Rattle.result.specs.Result.{resultLength, resultOf};
-ghost use Rattle.record_writer.specs.Counts.{Counts};
-ghost use Rattle.rooms.specs.Rooms.{Passing, Planned, Few};
+ghost use Rattle.plan.specs.Plan.{plan, Prepared};
+ghost use Rattle.writing.specs.Writing.{Noted};
+ghost use Rattle.promised.specs.Cmap.{outputOf};
+ghost use Rattle.concluding.specs.Concluding.{Passing, Planned};
+ghost use Rattle.rooms.specs.Rooms.{Few, Enough};
 
 // Work room that is enough for most jobs, and cleared in no time.
 const SMALL_KEPT: usize = 4096;
@@ -24,14 +24,105 @@ const MIDDLE_KEPT: usize = 32768;
 
 const MIDDLE_PAIRS: usize = 16384;
 
-pub fn record_count(s: &[u8]) -> usize
-    requires { ⌜ 4 ≤ length (now s) ⌝ }
-    ensures { λ r. ⌜ r ≡ recordCount (now (s .entry)) ⌝ }
+// Writes the result where refusals 8, 9 and 10 let it pass; the flags and the two lists after them are work room.
+fn write_result(
+    out: &mut [u8],
+    s: &[u8],
+    codes: &[u32],
+    glyphs: &[u16],
+    kept: &[u32],
+    map: &[u16],
+    requested: &[u16],
+    flags: &mut [u8],
+    tocodes: &mut [u32],
+    toglyphs: &mut [u16],
+    fronts: &[usize],
+    ends: &[usize],
+    os: [Outcome; 64],
+)
+    requires { ⌜ Planned (job (now s) (now codes) (now glyphs) (now kept) (now map) (now requested)) os ⌝ }
+    requires { ⌜ Enough (job (now s) (now codes) (now glyphs) (now kept) (now map) (now requested)) (now flags) (now tocodes) (now toglyphs) ⌝ }
+    requires { ⌜ Noted (job (now s) (now codes) (now glyphs) (now kept) (now map) (now requested)) os (now fronts) (now ends) ⌝ }
+    ensures { λ _. ⌜ now (out .exit) ≡ outputOf (job (now (s .entry)) (now (codes .entry)) (now (glyphs .entry)) (now (kept .entry)) (now (map .entry)) (now (requested .entry))) (now (out .entry)) ⌝ }
 {
-    number::u16_at(s, 2) as usize
+    match concluding::answer_by(s, os, out.len()) {
+        Answer::Written { bytes: _, records } => writing::serialize_cmap(
+            out,
+            s,
+            codes,
+            glyphs,
+            kept,
+            map,
+            requested,
+            flags,
+            tocodes,
+            toglyphs,
+            fronts,
+            ends,
+            os,
+            records,
+        ),
+        Answer::Refused(_) => {}
+        Answer::NoRoom(_) => {}
+    }
 }
 
-fn plan_on_full_room(
+// What becomes of each record. The result is written where nothing refuses it; the last four slices but the output are work room.
+fn carry_out_on(
+    s: &[u8],
+    codes: &[u32],
+    glyphs: &[u16],
+    kept: &[u32],
+    map: &[u16],
+    requested: &[u16],
+    flags: &mut [u8],
+    others: &mut [u8],
+    tocodes: &mut [u32],
+    toglyphs: &mut [u16],
+    out: &mut [u8],
+) -> [Outcome; 64]
+    requires { ⌜ Passing (job (now s) (now codes) (now glyphs) (now kept) (now map) (now requested)) ⌝ }
+    requires { ⌜ Prepared (job (now s) (now codes) (now glyphs) (now kept) (now map) (now requested)) (recordCount (now s)) (now flags) (now others) (now tocodes) (now toglyphs) ⌝ }
+    ensures { λ r. ⌜ (r ≡ plan (job (now (s .entry)) (now (codes .entry)) (now (glyphs .entry)) (now (kept .entry)) (now (map .entry)) (now (requested .entry)))) × Small r ⌝ }
+    ensures { λ _. ⌜ now (out .exit) ≡ outputOf (job (now (s .entry)) (now (codes .entry)) (now (glyphs .entry)) (now (kept .entry)) (now (map .entry)) (now (requested .entry))) (now (out .entry)) ⌝ }
+{
+    let mut fronts = [0usize; 64];
+    let mut ends = [0usize; 1024];
+    let m = concluding::record_count(s);
+    let os = plan::plan(
+        s,
+        m,
+        codes,
+        glyphs,
+        kept,
+        map,
+        requested,
+        flags,
+        others,
+        tocodes,
+        toglyphs,
+        &mut fronts,
+        &mut ends,
+    );
+    write_result(
+        out,
+        s,
+        codes,
+        glyphs,
+        kept,
+        map,
+        requested,
+        flags,
+        tocodes,
+        toglyphs,
+        &fronts,
+        &ends,
+        os,
+    );
+    os
+}
+
+fn carry_out_on_full_room(
     s: &[u8],
     codes: &[u32],
     glyphs: &[u16],
@@ -42,14 +133,14 @@ fn plan_on_full_room(
     others: &mut [u8; KEPT_MAX],
     tocodes: &mut [u32; PAIRS_MAX],
     toglyphs: &mut [u16; PAIRS_MAX],
+    out: &mut [u8],
 ) -> [Outcome; 64]
     requires { ⌜ Passing (job (now s) (now codes) (now glyphs) (now kept) (now map) (now requested)) ⌝ }
     ensures { λ r. ⌜ (r ≡ plan (job (now (s .entry)) (now (codes .entry)) (now (glyphs .entry)) (now (kept .entry)) (now (map .entry)) (now (requested .entry)))) × Small r ⌝ }
+    ensures { λ _. ⌜ now (out .exit) ≡ outputOf (job (now (s .entry)) (now (codes .entry)) (now (glyphs .entry)) (now (kept .entry)) (now (map .entry)) (now (requested .entry))) (now (out .entry)) ⌝ }
 {
-    let m = record_count(s);
-    plan::plan(
+    carry_out_on(
         s,
-        m,
         codes,
         glyphs,
         kept,
@@ -59,25 +150,28 @@ fn plan_on_full_room(
         others,
         tocodes,
         toglyphs,
+        out,
     )
 }
 
-fn plan_in_full_room(
+fn carry_out_in_full_room(
     s: &[u8],
     codes: &[u32],
     glyphs: &[u16],
     kept: &[u32],
     map: &[u16],
     requested: &[u16],
+    out: &mut [u8],
 ) -> [Outcome; 64]
     requires { ⌜ Passing (job (now s) (now codes) (now glyphs) (now kept) (now map) (now requested)) ⌝ }
     ensures { λ r. ⌜ (r ≡ plan (job (now (s .entry)) (now (codes .entry)) (now (glyphs .entry)) (now (kept .entry)) (now (map .entry)) (now (requested .entry)))) × Small r ⌝ }
+    ensures { λ _. ⌜ now (out .exit) ≡ outputOf (job (now (s .entry)) (now (codes .entry)) (now (glyphs .entry)) (now (kept .entry)) (now (map .entry)) (now (requested .entry))) (now (out .entry)) ⌝ }
 {
     let mut flags = [0u8; KEPT_MAX];
     let mut others = [0u8; KEPT_MAX];
     let mut tocodes = [0u32; PAIRS_MAX];
     let mut toglyphs = [0u16; PAIRS_MAX];
-    plan_on_full_room(
+    carry_out_on_full_room(
         s,
         codes,
         glyphs,
@@ -88,10 +182,11 @@ fn plan_in_full_room(
         &mut others,
         &mut tocodes,
         &mut toglyphs,
+        out,
     )
 }
 
-fn plan_on_middle_room(
+fn carry_out_on_middle_room(
     s: &[u8],
     codes: &[u32],
     glyphs: &[u16],
@@ -102,15 +197,15 @@ fn plan_on_middle_room(
     others: &mut [u8; MIDDLE_KEPT],
     tocodes: &mut [u32; MIDDLE_PAIRS],
     toglyphs: &mut [u16; MIDDLE_PAIRS],
+    out: &mut [u8],
 ) -> [Outcome; 64]
     requires { ⌜ Passing (job (now s) (now codes) (now glyphs) (now kept) (now map) (now requested)) ⌝ }
     requires { ⌜ Few 32768 16384 (now codes) (now kept) ⌝ }
     ensures { λ r. ⌜ (r ≡ plan (job (now (s .entry)) (now (codes .entry)) (now (glyphs .entry)) (now (kept .entry)) (now (map .entry)) (now (requested .entry)))) × Small r ⌝ }
+    ensures { λ _. ⌜ now (out .exit) ≡ outputOf (job (now (s .entry)) (now (codes .entry)) (now (glyphs .entry)) (now (kept .entry)) (now (map .entry)) (now (requested .entry))) (now (out .entry)) ⌝ }
 {
-    let m = record_count(s);
-    plan::plan(
+    carry_out_on(
         s,
-        m,
         codes,
         glyphs,
         kept,
@@ -120,26 +215,29 @@ fn plan_on_middle_room(
         others,
         tocodes,
         toglyphs,
+        out,
     )
 }
 
-fn plan_in_middle_room(
+fn carry_out_in_middle_room(
     s: &[u8],
     codes: &[u32],
     glyphs: &[u16],
     kept: &[u32],
     map: &[u16],
     requested: &[u16],
+    out: &mut [u8],
 ) -> [Outcome; 64]
     requires { ⌜ Passing (job (now s) (now codes) (now glyphs) (now kept) (now map) (now requested)) ⌝ }
     requires { ⌜ Few 32768 16384 (now codes) (now kept) ⌝ }
     ensures { λ r. ⌜ (r ≡ plan (job (now (s .entry)) (now (codes .entry)) (now (glyphs .entry)) (now (kept .entry)) (now (map .entry)) (now (requested .entry)))) × Small r ⌝ }
+    ensures { λ _. ⌜ now (out .exit) ≡ outputOf (job (now (s .entry)) (now (codes .entry)) (now (glyphs .entry)) (now (kept .entry)) (now (map .entry)) (now (requested .entry))) (now (out .entry)) ⌝ }
 {
     let mut flags = [0u8; MIDDLE_KEPT];
     let mut others = [0u8; MIDDLE_KEPT];
     let mut tocodes = [0u32; MIDDLE_PAIRS];
     let mut toglyphs = [0u16; MIDDLE_PAIRS];
-    plan_on_middle_room(
+    carry_out_on_middle_room(
         s,
         codes,
         glyphs,
@@ -150,31 +248,34 @@ fn plan_in_middle_room(
         &mut others,
         &mut tocodes,
         &mut toglyphs,
+        out,
     )
 }
 
 // For a job that is not small. Called from two places and too long to be compiled into them, so that a small job's frame stays small.
-fn plan_in_large_room(
+fn carry_out_in_large_room(
     s: &[u8],
     codes: &[u32],
     glyphs: &[u16],
     kept: &[u32],
     map: &[u16],
     requested: &[u16],
+    out: &mut [u8],
 ) -> [Outcome; 64]
     requires { ⌜ Passing (job (now s) (now codes) (now glyphs) (now kept) (now map) (now requested)) ⌝ }
     ensures { λ r. ⌜ (r ≡ plan (job (now (s .entry)) (now (codes .entry)) (now (glyphs .entry)) (now (kept .entry)) (now (map .entry)) (now (requested .entry)))) × Small r ⌝ }
+    ensures { λ _. ⌜ now (out .exit) ≡ outputOf (job (now (s .entry)) (now (codes .entry)) (now (glyphs .entry)) (now (kept .entry)) (now (map .entry)) (now (requested .entry))) (now (out .entry)) ⌝ }
 {
     if MIDDLE_KEPT < kept.len() {
-        return plan_in_full_room(s, codes, glyphs, kept, map, requested);
+        return carry_out_in_full_room(s, codes, glyphs, kept, map, requested, out);
     }
     if MIDDLE_PAIRS < codes.len() {
-        return plan_in_full_room(s, codes, glyphs, kept, map, requested);
+        return carry_out_in_full_room(s, codes, glyphs, kept, map, requested, out);
     }
-    plan_in_middle_room(s, codes, glyphs, kept, map, requested)
+    carry_out_in_middle_room(s, codes, glyphs, kept, map, requested, out)
 }
 
-fn plan_on_small_room(
+fn carry_out_on_small_room(
     s: &[u8],
     codes: &[u32],
     glyphs: &[u16],
@@ -185,15 +286,15 @@ fn plan_on_small_room(
     others: &mut [u8; SMALL_KEPT],
     tocodes: &mut [u32; SMALL_PAIRS],
     toglyphs: &mut [u16; SMALL_PAIRS],
+    out: &mut [u8],
 ) -> [Outcome; 64]
     requires { ⌜ Passing (job (now s) (now codes) (now glyphs) (now kept) (now map) (now requested)) ⌝ }
     requires { ⌜ Few 4096 2048 (now codes) (now kept) ⌝ }
     ensures { λ r. ⌜ (r ≡ plan (job (now (s .entry)) (now (codes .entry)) (now (glyphs .entry)) (now (kept .entry)) (now (map .entry)) (now (requested .entry)))) × Small r ⌝ }
+    ensures { λ _. ⌜ now (out .exit) ≡ outputOf (job (now (s .entry)) (now (codes .entry)) (now (glyphs .entry)) (now (kept .entry)) (now (map .entry)) (now (requested .entry))) (now (out .entry)) ⌝ }
 {
-    let m = record_count(s);
-    plan::plan(
+    carry_out_on(
         s,
-        m,
         codes,
         glyphs,
         kept,
@@ -203,26 +304,29 @@ fn plan_on_small_room(
         others,
         tocodes,
         toglyphs,
+        out,
     )
 }
 
-fn plan_in_small_room(
+fn carry_out_in_small_room(
     s: &[u8],
     codes: &[u32],
     glyphs: &[u16],
     kept: &[u32],
     map: &[u16],
     requested: &[u16],
+    out: &mut [u8],
 ) -> [Outcome; 64]
     requires { ⌜ Passing (job (now s) (now codes) (now glyphs) (now kept) (now map) (now requested)) ⌝ }
     requires { ⌜ Few 4096 2048 (now codes) (now kept) ⌝ }
     ensures { λ r. ⌜ (r ≡ plan (job (now (s .entry)) (now (codes .entry)) (now (glyphs .entry)) (now (kept .entry)) (now (map .entry)) (now (requested .entry)))) × Small r ⌝ }
+    ensures { λ _. ⌜ now (out .exit) ≡ outputOf (job (now (s .entry)) (now (codes .entry)) (now (glyphs .entry)) (now (kept .entry)) (now (map .entry)) (now (requested .entry))) (now (out .entry)) ⌝ }
 {
     let mut flags = [0u8; SMALL_KEPT];
     let mut others = [0u8; SMALL_KEPT];
     let mut tocodes = [0u32; SMALL_PAIRS];
     let mut toglyphs = [0u16; SMALL_PAIRS];
-    plan_on_small_room(
+    carry_out_on_small_room(
         s,
         codes,
         glyphs,
@@ -233,296 +337,29 @@ fn plan_in_small_room(
         &mut others,
         &mut tocodes,
         &mut toglyphs,
+        out,
     )
 }
 
-// What becomes of the records.
-pub fn outcomes(
+// What becomes of each record of a job that refusals 1 to 7 let pass, and its result where 8, 9 and 10 let it pass too.
+pub fn carry_out(
     s: &[u8],
     codes: &[u32],
     glyphs: &[u16],
     kept: &[u32],
     map: &[u16],
     requested: &[u16],
+    out: &mut [u8],
 ) -> [Outcome; 64]
     requires { ⌜ Passing (job (now s) (now codes) (now glyphs) (now kept) (now map) (now requested)) ⌝ }
     ensures { λ r. ⌜ (r ≡ plan (job (now (s .entry)) (now (codes .entry)) (now (glyphs .entry)) (now (kept .entry)) (now (map .entry)) (now (requested .entry)))) × Small r ⌝ }
+    ensures { λ _. ⌜ now (out .exit) ≡ outputOf (job (now (s .entry)) (now (codes .entry)) (now (glyphs .entry)) (now (kept .entry)) (now (map .entry)) (now (requested .entry))) (now (out .entry)) ⌝ }
 {
     if SMALL_KEPT < kept.len() {
-        return plan_in_large_room(s, codes, glyphs, kept, map, requested);
+        return carry_out_in_large_room(s, codes, glyphs, kept, map, requested, out);
     }
     if SMALL_PAIRS < codes.len() {
-        return plan_in_large_room(s, codes, glyphs, kept, map, requested);
+        return carry_out_in_large_room(s, codes, glyphs, kept, map, requested, out);
     }
-    plan_in_small_room(s, codes, glyphs, kept, map, requested)
-}
-
-fn write_on_full_room(
-    out: &mut [u8],
-    s: &[u8],
-    codes: &[u32],
-    glyphs: &[u16],
-    kept: &[u32],
-    map: &[u16],
-    requested: &[u16],
-    flags: &mut [u8; KEPT_MAX],
-    tocodes: &mut [u32; PAIRS_MAX],
-    toglyphs: &mut [u16; PAIRS_MAX],
-    os: [Outcome; 64],
-    count: usize,
-)
-    requires { ⌜ Planned (job (now s) (now codes) (now glyphs) (now kept) (now map) (now requested)) os ⌝ }
-    requires { ⌜ Counts os count ⌝ }
-    requires { ⌜ resultLength os ≤ length (now out) ⌝ }
-    ensures { λ _. ⌜ now (out .exit) ≡ sets (now (out .entry)) 0 (resultOf (job (now (s .entry)) (now (codes .entry)) (now (glyphs .entry)) (now (kept .entry)) (now (map .entry)) (now (requested .entry))) os) ⌝ }
-{
-    writing::serialize_cmap(
-        out,
-        s,
-        codes,
-        glyphs,
-        kept,
-        map,
-        requested,
-        flags,
-        tocodes,
-        toglyphs,
-        os,
-        count,
-    )
-}
-
-fn write_in_full_room(
-    out: &mut [u8],
-    s: &[u8],
-    codes: &[u32],
-    glyphs: &[u16],
-    kept: &[u32],
-    map: &[u16],
-    requested: &[u16],
-    os: [Outcome; 64],
-    count: usize,
-)
-    requires { ⌜ Planned (job (now s) (now codes) (now glyphs) (now kept) (now map) (now requested)) os ⌝ }
-    requires { ⌜ Counts os count ⌝ }
-    requires { ⌜ resultLength os ≤ length (now out) ⌝ }
-    ensures { λ _. ⌜ now (out .exit) ≡ sets (now (out .entry)) 0 (resultOf (job (now (s .entry)) (now (codes .entry)) (now (glyphs .entry)) (now (kept .entry)) (now (map .entry)) (now (requested .entry))) os) ⌝ }
-{
-    let mut flags = [0u8; KEPT_MAX];
-    let mut tocodes = [0u32; PAIRS_MAX];
-    let mut toglyphs = [0u16; PAIRS_MAX];
-    write_on_full_room(
-        out,
-        s,
-        codes,
-        glyphs,
-        kept,
-        map,
-        requested,
-        &mut flags,
-        &mut tocodes,
-        &mut toglyphs,
-        os,
-        count,
-    )
-}
-
-fn write_on_middle_room(
-    out: &mut [u8],
-    s: &[u8],
-    codes: &[u32],
-    glyphs: &[u16],
-    kept: &[u32],
-    map: &[u16],
-    requested: &[u16],
-    flags: &mut [u8; MIDDLE_KEPT],
-    tocodes: &mut [u32; MIDDLE_PAIRS],
-    toglyphs: &mut [u16; MIDDLE_PAIRS],
-    os: [Outcome; 64],
-    count: usize,
-)
-    requires { ⌜ Planned (job (now s) (now codes) (now glyphs) (now kept) (now map) (now requested)) os ⌝ }
-    requires { ⌜ Counts os count ⌝ }
-    requires { ⌜ resultLength os ≤ length (now out) ⌝ }
-    requires { ⌜ Few 32768 16384 (now codes) (now kept) ⌝ }
-    ensures { λ _. ⌜ now (out .exit) ≡ sets (now (out .entry)) 0 (resultOf (job (now (s .entry)) (now (codes .entry)) (now (glyphs .entry)) (now (kept .entry)) (now (map .entry)) (now (requested .entry))) os) ⌝ }
-{
-    writing::serialize_cmap(
-        out,
-        s,
-        codes,
-        glyphs,
-        kept,
-        map,
-        requested,
-        flags,
-        tocodes,
-        toglyphs,
-        os,
-        count,
-    )
-}
-
-fn write_in_middle_room(
-    out: &mut [u8],
-    s: &[u8],
-    codes: &[u32],
-    glyphs: &[u16],
-    kept: &[u32],
-    map: &[u16],
-    requested: &[u16],
-    os: [Outcome; 64],
-    count: usize,
-)
-    requires { ⌜ Planned (job (now s) (now codes) (now glyphs) (now kept) (now map) (now requested)) os ⌝ }
-    requires { ⌜ Counts os count ⌝ }
-    requires { ⌜ resultLength os ≤ length (now out) ⌝ }
-    requires { ⌜ Few 32768 16384 (now codes) (now kept) ⌝ }
-    ensures { λ _. ⌜ now (out .exit) ≡ sets (now (out .entry)) 0 (resultOf (job (now (s .entry)) (now (codes .entry)) (now (glyphs .entry)) (now (kept .entry)) (now (map .entry)) (now (requested .entry))) os) ⌝ }
-{
-    let mut flags = [0u8; MIDDLE_KEPT];
-    let mut tocodes = [0u32; MIDDLE_PAIRS];
-    let mut toglyphs = [0u16; MIDDLE_PAIRS];
-    write_on_middle_room(
-        out,
-        s,
-        codes,
-        glyphs,
-        kept,
-        map,
-        requested,
-        &mut flags,
-        &mut tocodes,
-        &mut toglyphs,
-        os,
-        count,
-    )
-}
-
-// For a job that is not small, as above.
-fn write_in_large_room(
-    out: &mut [u8],
-    s: &[u8],
-    codes: &[u32],
-    glyphs: &[u16],
-    kept: &[u32],
-    map: &[u16],
-    requested: &[u16],
-    os: [Outcome; 64],
-    count: usize,
-)
-    requires { ⌜ Planned (job (now s) (now codes) (now glyphs) (now kept) (now map) (now requested)) os ⌝ }
-    requires { ⌜ Counts os count ⌝ }
-    requires { ⌜ resultLength os ≤ length (now out) ⌝ }
-    ensures { λ _. ⌜ now (out .exit) ≡ sets (now (out .entry)) 0 (resultOf (job (now (s .entry)) (now (codes .entry)) (now (glyphs .entry)) (now (kept .entry)) (now (map .entry)) (now (requested .entry))) os) ⌝ }
-{
-    if MIDDLE_KEPT < kept.len() {
-        write_in_full_room(out, s, codes, glyphs, kept, map, requested, os, count);
-        return;
-    }
-    if MIDDLE_PAIRS < codes.len() {
-        write_in_full_room(out, s, codes, glyphs, kept, map, requested, os, count);
-        return;
-    }
-    write_in_middle_room(out, s, codes, glyphs, kept, map, requested, os, count);
-}
-
-fn write_on_small_room(
-    out: &mut [u8],
-    s: &[u8],
-    codes: &[u32],
-    glyphs: &[u16],
-    kept: &[u32],
-    map: &[u16],
-    requested: &[u16],
-    flags: &mut [u8; SMALL_KEPT],
-    tocodes: &mut [u32; SMALL_PAIRS],
-    toglyphs: &mut [u16; SMALL_PAIRS],
-    os: [Outcome; 64],
-    count: usize,
-)
-    requires { ⌜ Planned (job (now s) (now codes) (now glyphs) (now kept) (now map) (now requested)) os ⌝ }
-    requires { ⌜ Counts os count ⌝ }
-    requires { ⌜ resultLength os ≤ length (now out) ⌝ }
-    requires { ⌜ Few 4096 2048 (now codes) (now kept) ⌝ }
-    ensures { λ _. ⌜ now (out .exit) ≡ sets (now (out .entry)) 0 (resultOf (job (now (s .entry)) (now (codes .entry)) (now (glyphs .entry)) (now (kept .entry)) (now (map .entry)) (now (requested .entry))) os) ⌝ }
-{
-    writing::serialize_cmap(
-        out,
-        s,
-        codes,
-        glyphs,
-        kept,
-        map,
-        requested,
-        flags,
-        tocodes,
-        toglyphs,
-        os,
-        count,
-    )
-}
-
-fn write_in_small_room(
-    out: &mut [u8],
-    s: &[u8],
-    codes: &[u32],
-    glyphs: &[u16],
-    kept: &[u32],
-    map: &[u16],
-    requested: &[u16],
-    os: [Outcome; 64],
-    count: usize,
-)
-    requires { ⌜ Planned (job (now s) (now codes) (now glyphs) (now kept) (now map) (now requested)) os ⌝ }
-    requires { ⌜ Counts os count ⌝ }
-    requires { ⌜ resultLength os ≤ length (now out) ⌝ }
-    requires { ⌜ Few 4096 2048 (now codes) (now kept) ⌝ }
-    ensures { λ _. ⌜ now (out .exit) ≡ sets (now (out .entry)) 0 (resultOf (job (now (s .entry)) (now (codes .entry)) (now (glyphs .entry)) (now (kept .entry)) (now (map .entry)) (now (requested .entry))) os) ⌝ }
-{
-    let mut flags = [0u8; SMALL_KEPT];
-    let mut tocodes = [0u32; SMALL_PAIRS];
-    let mut toglyphs = [0u16; SMALL_PAIRS];
-    write_on_small_room(
-        out,
-        s,
-        codes,
-        glyphs,
-        kept,
-        map,
-        requested,
-        &mut flags,
-        &mut tocodes,
-        &mut toglyphs,
-        os,
-        count,
-    )
-}
-
-// Writes the result that the outcomes make.
-pub fn write_result(
-    out: &mut [u8],
-    s: &[u8],
-    codes: &[u32],
-    glyphs: &[u16],
-    kept: &[u32],
-    map: &[u16],
-    requested: &[u16],
-    os: [Outcome; 64],
-    count: usize,
-)
-    requires { ⌜ Planned (job (now s) (now codes) (now glyphs) (now kept) (now map) (now requested)) os ⌝ }
-    requires { ⌜ Counts os count ⌝ }
-    requires { ⌜ resultLength os ≤ length (now out) ⌝ }
-    ensures { λ _. ⌜ now (out .exit) ≡ sets (now (out .entry)) 0 (resultOf (job (now (s .entry)) (now (codes .entry)) (now (glyphs .entry)) (now (kept .entry)) (now (map .entry)) (now (requested .entry))) os) ⌝ }
-{
-    if SMALL_KEPT < kept.len() {
-        write_in_large_room(out, s, codes, glyphs, kept, map, requested, os, count);
-        return;
-    }
-    if SMALL_PAIRS < codes.len() {
-        write_in_large_room(out, s, codes, glyphs, kept, map, requested, os, count);
-        return;
-    }
-    write_in_small_room(out, s, codes, glyphs, kept, map, requested, os, count);
+    carry_out_in_small_room(s, codes, glyphs, kept, map, requested, out)
 }

@@ -1,6 +1,6 @@
 use borrow.Author.Needs.{needs}
-use Rattle.rooms.proofs.record_count.Statement.{statement}
-use Rattle.rooms.proofs.record_count.Tie as tie
+use Rattle.concluding.proofs.record_count.Statement.{statement}
+use Rattle.concluding.proofs.record_count.Tie as tie
 
 u16-at-requires : tie.Need-u16-at-requires
 u16-at-requires c κs = search needs
