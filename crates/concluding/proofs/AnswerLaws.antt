@@ -83,24 +83,27 @@ module _ (j : Job) (os : List Outcome) (p : Planned j os) where
       let few = accepted-of (j .source) (early-passed j (p .passing .passed) .header) .few in
       length-result j (plan j) (λ k n e. made-length j k n (plan-made j few k n e .is)) ∙ ap resultLength (sym (p .is))
 
+  module _ (room : ℕ) (z : lateRefusal (j .source) os ≡ 0) where
+    number : numberIn j room ≡ pick (ltb room (length (result j))) 10 0
+    number = number-passed j room (sym late-is ∙ z)
+
+    short : ltb room (resultLength os) ≡ true → NoRoom (resultLength os) ≡ answerOf j room
+    unfolding answerOf
+    short t = rw (number, long, t) refl
+
+    fits : ltb room (resultLength os) ≡ false → Written (resultLength os) (written os) ≡ answerOf j room
+    unfolding answerOf
+    fits t = rw (number, long, t, ← p .is) refl
+
   answer-is : (room : ℕ) → answerBy (j .source) os room ≡ answerOf j room
   unfolding answerBy
   answer-is room =
       let late = lateRefusal (j .source) os in
       by-pick (λ (a : Answer). a ≡ answerOf j room) (eqb late 0) (pick (ltb room (resultLength os)) (NoRoom (resultLength os)) (Written (resultLength os) (written os))) (Refused late)
-      (λ z. by-pick (λ (a : Answer). a ≡ answerOf j room) (ltb room (resultLength os)) (NoRoom (resultLength os)) (Written (resultLength os) (written os)) (short (eqb-true late 0 z)) (fits (eqb-true late 0 z)))
+      (λ z. by-pick (λ (a : Answer). a ≡ answerOf j room) (ltb room (resultLength os)) (NoRoom (resultLength os)) (Written (resultLength os) (written os))
+      (short room (eqb-true late 0 z))
+      (fits room (eqb-true late 0 z)))
       (λ z. refused-answer j late late-is (omega (arith, eqb-false late 0 z)) room)
-    where
-      number : lateRefusal (j .source) os ≡ 0 → numberIn j room ≡ pick (ltb room (length (result j))) 10 0
-      number z = number-passed j room (sym late-is ∙ z)
-
-      short : lateRefusal (j .source) os ≡ 0 → ltb room (resultLength os) ≡ true → NoRoom (resultLength os) ≡ answerOf j room
-      unfolding answerOf
-      short z t = rw (number z, long, t) refl
-
-      fits : lateRefusal (j .source) os ≡ 0 → ltb room (resultLength os) ≡ false → Written (resultLength os) (written os) ≡ answerOf j room
-      unfolding answerOf
-      fits z t = rw (number z, long, t, ← p .is) refl
 
   pub answer-told : (room : ℕ) (a : Answer) → a ≡ answerBy (j .source) os room → a ≡ answerOf j room
   answer-told room a q = q ∙ answer-is room
