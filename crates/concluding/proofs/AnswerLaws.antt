@@ -162,7 +162,7 @@ module _ (j : Job) (os : List Outcome) (p : Planned j os) (out : List ℕ) (a : 
     accepted-output fin w =
         let room : length (result j) ≤ length out = omega (arith, long j os p, accepted .fits) in
         let zero : numberIn j (length out) ≡ 0 =
-          number-passed j (length out) (sym (late-is j os p) ∙ accepted .passed) ∙ rw (le-ltb (length out) (length (result j)) room) refl in
+        number-passed j (length out) (sym (late-is j os p) ∙ accepted .passed) ∙ rw (le-ltb (length out) (length (result j)) room) refl in
         rw zero (w ∙ ap (λ (o : List Outcome). sets out 0 (resultOf j o)) (p .is) ∙ sets-front out (result j) room)
 
 pub ruleset outputs = (refused-keeps, no-room-keeps, accepted-counts, accepted-fits, accepted-output)

@@ -8,12 +8,14 @@ use Rattle.header.specs.Header.{recordCount}
 use Rattle.checks.proofs.SizesLaws.{Sizes, sizes}
 use Rattle.listing.specs.Job.{Job, job}
 use Rattle.outcomes.specs.declared.Outcome.{Outcome}
+use Rattle.fresh.specs.Notes.{Fronted}
 use Rattle.plan.specs.Plan.{Prepared}
+use Rattle.plan.specs.Notes.{Endings}
 use Rattle.plan.proofs.PlanLaws.{prepared-again}
 use Rattle.result.proofs.RefusalLaws.{early-passed}
 use Rattle.refusing.proofs.RefusingLaws.{early-prepared}
 use Rattle.record_writer.specs.Counts.{Counts}
-use Rattle.writing.specs.Writing.{Planned as Written}
+use Rattle.writing.specs.Writing.{Planned as Written, Noted}
 use Rattle.concluding.specs.Concluding.{Passing, Planned}
 use Rattle.rooms.specs.Rooms.{Few, Enough}
 
@@ -71,3 +73,10 @@ module _ (j : Job) (flags tocodes toglyphs : List ℕ) where
 
   pub to-write : (os : List Outcome) (count : ℕ) → Planned j os → Enough j flags tocodes toglyphs → Counts os count → Written j os count flags tocodes toglyphs
   to-write os count p r c = record { m = recordCount (j .source); others = flags; prepared = r .prepared; is = p .is; counts = c }
+
+module _ (s cs gs ks ms rs : List ℕ) where
+  pub counted-room : (m : ℕ) (fs ot tocs togs : List ℕ) → m ≡ recordCount s → Prepared (job s cs gs ks ms rs) (recordCount s) fs ot tocs togs → Prepared (job s cs gs ks ms rs) m fs ot tocs togs
+  counted-room m fs ot tocs togs e p = rw e p
+
+  pub notes : (os : List Outcome) (fronts ends : List ℕ) → Fronted s (length ms) cs gs fronts → Endings (job s cs gs ks ms rs) os (recordCount s) ends → Noted (job s cs gs ks ms rs) os fronts ends
+  notes os fronts ends f e = record { fronted = f; endings = e }
