@@ -18,8 +18,9 @@ use Rattle.promised.specs.declared.Fate.{Fate}
 use Rattle.promised.specs.declared.FateKind.the-variants.{Refused}
 use Rattle.promised.specs.Fates.{noFate, fateOf}
 use Rattle.concluding.specs.Concluding.{Planned}
-use Rattle.concluding.proofs.PassingLaws.{header, passes, planned}
+use Rattle.concluding.proofs.PassingLaws.{header}
 use Rattle.fates.specs.Found.{fateBy, Found}
+use Rattle.cmap.proofs.SubsetLaws.{worked-out}
 
 module _ (s cs gs ks ms rs : List ℕ) (os : List Outcome) (p : Planned (job s cs gs ks ms rs) os) where
   abbrev few : recordCount s ≤ 64
@@ -39,7 +40,7 @@ module _ (s cs gs ks ms rs : List ℕ) (os : List Outcome) (p : Planned (job s c
   }
 
 pub outcomes-found : (s cs gs ks ms rs : List ℕ) (os : List Outcome) (n : ℕ) → os ≡ plan (job s cs gs ks ms rs) → Small os → n ≡ earlyRefusal (job s cs gs ks ms rs) → n ≤ 0 → Found s os
-outcomes-found s cs gs ks ms rs os n e q f h = planned-found s cs gs ks ms rs os (planned s cs gs ks ms rs (passes s cs gs ks ms rs n f h) os e q)
+outcomes-found s cs gs ks ms rs os n e q f h = planned-found s cs gs ks ms rs os (worked-out s cs gs ks ms rs os n e q f h)
 
 module _ (j : Job) (k : ℕ) where
   pub fate-early : (n : ℕ) (r : Fate) → n ≡ earlyRefusal j → 0 < n → r ≡ noFate (Refused n) → r ≡ fateOf j k

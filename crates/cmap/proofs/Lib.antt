@@ -1,1 +1,2 @@
+pub mod SubsetLaws
 pub mod FateLaws

@@ -1,0 +1,26 @@
+-- From what a job's working out leaves to its answer.
+use Prim.Native.Nat.{ℕ, _≤_}
+use mathlib.Core.Path.{_≡_}
+use mathlib.Core.List.{List}
+use Rattle.listing.specs.Job.{Job, job}
+use Rattle.outcomes.specs.declared.Outcome.{Outcome}
+use Rattle.outcomes.specs.Outcomes.{Small}
+use Rattle.plan.specs.Plan.{plan}
+use Rattle.result.specs.Refusal.{earlyRefusal}
+use Rattle.promised.specs.declared.Answer.{Answer}
+use Rattle.promised.specs.Cmap.{answerOf}
+use Rattle.concluding.specs.Concluding.{Planned, Settled, answerBy}
+use Rattle.concluding.proofs.PassingLaws.{passes, planned, planned-settled}
+use Rattle.concluding.proofs.AnswerLaws.{answer-told}
+
+module _ (s cs gs ks ms rs : List ℕ) (os : List Outcome) (n : ℕ) (e : os ≡ plan (job s cs gs ks ms rs)) (q : Small os) (f : n ≡ earlyRefusal (job s cs gs ks ms rs)) (h : n ≤ 0) where
+  pub worked-out : Planned (job s cs gs ks ms rs) os
+  worked-out = planned s cs gs ks ms rs (passes s cs gs ks ms rs n f h) os e q
+
+  pub outcomes-settled : Settled s os
+  outcomes-settled = planned-settled s cs gs ks ms rs os worked-out
+
+  pub answer-planned : (room : ℕ) (a : Answer) → a ≡ answerBy s os room → a ≡ answerOf (job s cs gs ks ms rs) room
+  answer-planned = answer-told (job s cs gs ks ms rs) os worked-out
+
+pub ruleset answering = (outcomes-settled, answer-planned)
