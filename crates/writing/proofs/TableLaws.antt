@@ -18,7 +18,8 @@ use Rattle.format4.specs.declared.Size.the-variants.{Empty, TooLong, Fits}
 use Rattle.format4.specs.Format4.{format4}
 use Rattle.format4.specs.Size.{sizeOf as sizeOf4}
 use Rattle.format12.specs.Format12.{format12}
-use Rattle.making.specs.Making.{Fits4, Fronts}
+use Rattle.making.specs.Making.{Fronts}
+use Rattle.making4.specs.Fits4.{Fits4}
 use Rattle.selector_tables.specs.Selectors.{given}
 use Rattle.selector_tables.specs.ByNumber.{slot}
 use Rattle.placing.specs.Ends.{Ends}

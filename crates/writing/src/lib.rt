@@ -41,7 +41,7 @@ fn write_table(
             language,
             segments: _,
             length: _,
-        } => making::write4(
+        } => making4::write4(
             out,
             place,
             language,
@@ -59,7 +59,7 @@ fn write_table(
             language,
             groups: _,
             length: _,
-        } => making::write12(
+        } => making12::write12(
             out,
             place,
             language,

@@ -1,13 +1,13 @@
-use Rattle.making.proofs.MakingLaws.{measured}
+use Rattle.making12.proofs.Making12Laws.{groups-room}
 use borrow.Author.Needs.{needs}
-use Rattle.making.proofs.write12_first.Statement.{statement}
-use Rattle.making.proofs.write12_first.Tie as tie
+use Rattle.making12.proofs.write12_first.Statement.{statement}
+use Rattle.making12.proofs.write12_first.Tie as tie
 
 size12-of-requires : tie.Need-size12-of-requires
 size12-of-requires c κs = search needs
 
 write12-of-requires : tie.Need-write12-of-requires
-write12-of-requires c κs = (search needs, search measured)
+write12-of-requires c κs = (search needs, search groups-room)
 
 same-length : tie.Need-same-length
 same-length c = search needs

@@ -1,7 +1,8 @@
 use Rattle.making.proofs.MakingLaws.{fronts}
+use Rattle.making12.proofs.Making12Laws.{front12}
 use borrow.Author.Needs.{needs}
-use Rattle.making.proofs.write12_of.Statement.{statement}
-use Rattle.making.proofs.write12_of.Tie as tie
+use Rattle.making12.proofs.write12_of.Statement.{statement}
+use Rattle.making12.proofs.write12_of.Tie as tie
 
 slice-aggregate-write-format12 : tie.Need-slice-aggregate-write-format12
 slice-aggregate-write-format12 c = search fronts
@@ -10,7 +11,7 @@ slice-aggregate-write-format12-2 : tie.Need-slice-aggregate-write-format12-2
 slice-aggregate-write-format12-2 c = search fronts
 
 write-format12-requires : tie.Need-write-format12-requires
-write-format12-requires c κs = (search fronts, search needs)
+write-format12-requires c κs = (search front12, search needs)
 
 same-length : tie.Need-same-length
 same-length c = search needs

@@ -1,7 +1,7 @@
 use Rattle.making.proofs.MakingLaws.{fronts}
 use borrow.Author.Needs.{needs}
-use Rattle.making.proofs.write4_of.Statement.{statement}
-use Rattle.making.proofs.write4_of.Tie as tie
+use Rattle.making4.proofs.write4_of.Statement.{statement}
+use Rattle.making4.proofs.write4_of.Tie as tie
 
 slice-aggregate-write-format4 : tie.Need-slice-aggregate-write-format4
 slice-aggregate-write-format4 c = search fronts

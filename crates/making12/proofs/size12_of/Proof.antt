@@ -1,7 +1,8 @@
 use Rattle.making.proofs.MakingLaws.{fronts}
+use Rattle.making12.proofs.Making12Laws.{front12}
 use borrow.Author.Needs.{needs}
-use Rattle.making.proofs.size12_of.Statement.{statement}
-use Rattle.making.proofs.size12_of.Tie as tie
+use Rattle.making12.proofs.size12_of.Statement.{statement}
+use Rattle.making12.proofs.size12_of.Tie as tie
 
 slice-aggregate-format12-size : tie.Need-slice-aggregate-format12-size
 slice-aggregate-format12-size c = search fronts
@@ -10,7 +11,7 @@ slice-aggregate-format12-size-2 : tie.Need-slice-aggregate-format12-size-2
 slice-aggregate-format12-size-2 c = search fronts
 
 format12-size-requires : tie.Need-format12-size-requires
-format12-size-requires c κs = search fronts
+format12-size-requires c κs = search front12
 
 returns : tie.Need-returns
 returns c = search needs

@@ -1,7 +1,7 @@
 use Rattle.making.proofs.MakingLaws.{fronts}
 use borrow.Author.Needs.{needs}
-use Rattle.making.proofs.size4_of.Statement.{statement}
-use Rattle.making.proofs.size4_of.Tie as tie
+use Rattle.making4.proofs.size4_of.Statement.{statement}
+use Rattle.making4.proofs.size4_of.Tie as tie
 
 slice-aggregate-format4-size : tie.Need-slice-aggregate-format4-size
 slice-aggregate-format4-size c = search fronts

@@ -1,7 +1,7 @@
-use Rattle.making.proofs.MakingLaws.{measured}
+use Rattle.making4.proofs.Making4Laws.{measured}
 use borrow.Author.Needs.{needs}
-use Rattle.making.proofs.write4_first.Statement.{statement}
-use Rattle.making.proofs.write4_first.Tie as tie
+use Rattle.making4.proofs.write4_first.Statement.{statement}
+use Rattle.making4.proofs.write4_first.Tie as tie
 
 size4-of-requires : tie.Need-size4-of-requires
 size4-of-requires c κs = search needs
