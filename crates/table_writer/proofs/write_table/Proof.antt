@@ -1,8 +1,8 @@
 -- Each kind's writer writes the table that is the record's by that kind.
-use Rattle.writing.proofs.TableLaws.{tables}
+use Rattle.table_writer.proofs.TableLaws.{tables}
 use borrow.Author.Needs.{needs}
-use Rattle.writing.proofs.write_table.Statement.{statement}
-use Rattle.writing.proofs.write_table.Tie as tie
+use Rattle.table_writer.proofs.write_table.Statement.{statement}
+use Rattle.table_writer.proofs.write_table.Tie as tie
 
 cast-n : tie.Need-cast-n
 cast-n c = search needs

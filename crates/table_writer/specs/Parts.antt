@@ -1,4 +1,4 @@
--- Inner: what the functions of this crate hand to each other; no promise names it.
+-- Inner: what `writing` hands to the writer of a table; no promise names it.
 use Prim.Native.Nat.{ℕ, _+_, _<_, _≤_}
 use mathlib.Core.Path.{_≡_}
 use mathlib.Core.List.{List}

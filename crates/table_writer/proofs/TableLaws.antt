@@ -30,7 +30,7 @@ use Rattle.outcomes.specs.Outcomes.{sizeOf}
 use Rattle.fresh.specs.Fresh.{tableOf, by4, fresh}
 use Rattle.fresh.proofs.FreshLaws.{leads4, readable14}
 use Rattle.made.proofs.MadeLaws.{not-made, made-length, table-is}
-use Rattle.writing.specs.Parts.{Room, Known}
+use Rattle.table_writer.specs.Parts.{Room, Known}
 
 sized4 : (ps : List Pair) (place n l : ℕ) (size : Size) → sizeOf4 ps ≡ size → by4 size ≡ Made n → place + n ≤ l → Fits4 ps place l
 sized4 ps place n l Empty q e h = not-made (Fits4 ps place l) (by4 Empty) n refl e
