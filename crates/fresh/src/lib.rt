@@ -58,7 +58,7 @@ fn fresh4(
     ensures { λ r. ⌜ (r ≡ by4 (sizeOf4 (listed (now (s .entry)) n (now (codes .entry)) (now (glyphs .entry)) k))) × Short r ⌝ }
     ensures { λ _. ⌜ Fronted (now (s .entry)) n (now (codes .entry)) (now (glyphs .entry)) (now (fronts .exit)) ⌝ }
 {
-    let sized = making::size4(s, k, n, codes, glyphs, flags, tocodes, toglyphs);
+    let sized = making4::size4(s, k, n, codes, glyphs, flags, tocodes, toglyphs);
     fronts[k] = sized.front;
     let size = sized.size;
     of_size4(size)
@@ -80,7 +80,7 @@ fn fresh12(
     ensures { λ r. ⌜ (r ≡ Made (sizeOf12 (listed (now (s .entry)) n (now (codes .entry)) (now (glyphs .entry)) k) .bytes)) × Short r ⌝ }
     ensures { λ _. ⌜ Fronted (now (s .entry)) n (now (codes .entry)) (now (glyphs .entry)) (now (fronts .exit)) ⌝ }
 {
-    let sized = making::size12(s, k, n, codes, glyphs, flags, tocodes, toglyphs);
+    let sized = making12::size12(s, k, n, codes, glyphs, flags, tocodes, toglyphs);
     fronts[k] = sized.front;
     let size = sized.size;
     Outcome::Made(size.bytes)

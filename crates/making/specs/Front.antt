@@ -1,4 +1,4 @@
--- Inner: what the functions of this crate hand to each other; no promise names it.
+-- Inner: what the functions of `making4` and `making12` hand to each other; no promise names it.
 use Prim.Native.Nat.{ℕ, _≤_}
 use mathlib.Core.List.{List}
 use lib.ListN.{length}

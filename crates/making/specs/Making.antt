@@ -1,16 +1,13 @@
 -- What is asked for to make a format 4 or 12 subtable of the pairs that a record's subtable maps.
-use Prim.Native.Nat.{ℕ, _+_, _<_, _≤_}
+use Prim.Native.Nat.{ℕ, _<_, _≤_}
 use mathlib.Core.Path.{_≡_}
 use mathlib.Core.List.{List}
 use lib.ListN.{length, take}
-use Rattle.laws.specs.Lists.{Pair, pairs}
+use Rattle.laws.specs.Lists.{pairs}
 use Rattle.number.specs.Limits.{pairsMax}
 use Rattle.source.specs.Kind.{formatOf}
 use Rattle.records.specs.Records.{leadsTo, Placed}
 use Rattle.listing.specs.Listing.{listed, Beside, Columns}
-use Rattle.format4.specs.declared.RangeCounter.{RangeCounter}
-use Rattle.format4.specs.declared.Size.the-variants.{Fits}
-use Rattle.format4.specs.Size.{sizeOf as sizeOf4, lengthOf as lengthOf4}
 
 -- record k of the source is there, the font has n glyphs, the code points rise and each has a flag, and there is room for all pairs
 pub record Pairs (xs : List ℕ) (k n : ℕ) (codes glyphs flags tocodes toglyphs : List ℕ) : Type 0 where
@@ -22,12 +19,6 @@ pub record Pairs (xs : List ℕ) (k n : ℕ) (codes glyphs flags tocodes toglyph
 -- the record leads to a readable subtable of that format
 pub record Leads (xs : List ℕ) (k format : ℕ) : Type 0 where
   pub is : formatOf (leadsTo xs k) ≡ format
-
--- the pairs make a format 4 subtable that is neither empty nor too long, and it fits into l bytes at a place
-pub record Fits4 (ps : List Pair) (at l : ℕ) : Type 0 where
-  pub counter : RangeCounter
-  pub is : sizeOf4 ps ≡ Fits counter
-  pub room : at + lengthOf4 counter ≤ l
 
 -- what a plan notes of a record's listed pairs: how many they are, where they are the first of the lent columns; else 0
 pub record Fronts (xs : List ℕ) (n : ℕ) (codes glyphs : List ℕ) (k front : ℕ) : Type 0 where

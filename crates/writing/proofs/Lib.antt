@@ -1,4 +1,3 @@
 pub mod PlannedLaws
-pub mod TableLaws
 pub mod TablesLaws
 pub mod WholeLaws

@@ -17,7 +17,7 @@ use Rattle.result.specs.Result.{at, sizesFrom, tablesStart, tablesBelow, result
 use Rattle.result.proofs.CountLaws.{sizes-snoc}
 use Rattle.outcomes.proofs.SizeLaws.{unmade-size}
 use Rattle.writing.specs.Writing.{Planned, Noted}
-use Rattle.writing.specs.Parts.{Room, Known}
+use Rattle.table_writer.specs.Parts.{Room, Known}
 use Rattle.result.proofs.LengthLaws.{size-made}
 use Rattle.writing.proofs.PlannedLaws.{planned-again, ready-of, making-of, lengths}
 
