@@ -182,7 +182,7 @@ fn outcome_of(
     Outcome::NotRetained
 }
 
-// What becomes of each of the m records; the last four slices are work room.
+// What becomes of each of the m records, and in the last two slices what their writer may go by; the four before them are work room.
 pub fn plan(
     s: &[u8],
     m: usize,

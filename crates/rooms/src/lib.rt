@@ -67,7 +67,7 @@ fn write_result(
     }
 }
 
-// What becomes of each record. The result is written where nothing refuses it; the last four slices but the output are work room.
+// What becomes of each record. The result is written where nothing refuses it; the four slices before the output are work room.
 fn carry_out_on(
     s: &[u8],
     codes: &[u32],
