@@ -85,6 +85,6 @@ pub fn collect_unicodes12(
     requires { ⌜ Flags (now points) (now flags) ⌝ }
     ensures { λ _. ⌜ now (flags .exit) ≡ sets (now (flags .entry)) 0 (flagged (maps12 (now (s .entry)) at groups n) (now (points .entry))) ⌝ }
 {
-    marks::clear(flags, points.len());
+    flagging::clear(flags, points.len());
     mark_groups(s, at, groups, n, points, flags);
 }

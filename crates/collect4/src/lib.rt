@@ -191,7 +191,7 @@ fn mark_segments(s: &[u8], at: usize, segs: usize, len: usize, points: &[u32], f
     if mark_in_order(s, at, segs, len, points, flags) {
         return;
     }
-    marks::clear(flags, points.len());
+    flagging::clear(flags, points.len());
     mark_down(s, at, segs, len, points, flags);
 }
 
@@ -208,6 +208,6 @@ pub fn collect_unicodes4(
     requires { ⌜ Flags (now points) (now flags) ⌝ }
     ensures { λ _. ⌜ now (flags .exit) ≡ sets (now (flags .entry)) 0 (flagged (maps4 (now (s .entry)) at segs len) (now (points .entry))) ⌝ }
 {
-    marks::clear(flags, points.len());
+    flagging::clear(flags, points.len());
     mark_segments(s, at, segs, len, points, flags);
 }

@@ -16,7 +16,7 @@ fn mark_range(flags: &mut [u8], s: &[u8], place: usize, kept: &[u32], near: usiz
 {
     let start = number::u24_at(s, place);
     let additional = number::byte_at(s, place + 3);
-    marks::mark_points_near(flags, kept, start, start + additional, near)
+    flagging::mark_points_near(flags, kept, start, start + additional, near)
 }
 
 // Sets each kept point's flag: 1 if some range of the table at p covers it, else 0.
@@ -24,7 +24,7 @@ pub fn cover(flags: &mut [u8], s: &[u8], p: usize, kept: &[u32])
     requires { ⌜ Lent (now s) p (now kept) (now flags) ⌝ }
     ensures { λ _. ⌜ now (flags .exit) ≡ sets (now (flags .entry)) 0 (flagged (coveredBy (now (s .entry)) p) (now (kept .entry))) ⌝ }
 {
-    marks::clear(flags, kept.len());
+    flagging::clear(flags, kept.len());
     let r = number::u32_at(s, p) as usize;
     let mut i = 0;
     let mut near = 0;

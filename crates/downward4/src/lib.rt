@@ -110,7 +110,7 @@ fn decide_blocks(
 {
     let mut j = low;
     while j < high {
-        let end = marks::block_end(j, high);
+        let end = flagging::block_end(j, high);
         decide_block(s, at, segs, len, i, segment, points, flags, noted, j, end);
         j = end;
     }

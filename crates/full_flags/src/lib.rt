@@ -28,8 +28,8 @@ fn set_part(flags: &mut [u8], i: usize, high: usize, noted: u16) -> usize
     if i < done {
         return done;
     }
-    let j = marks::block_end(i, high);
-    marks::set_flags(flags, i, j);
+    let j = flagging::block_end(i, high);
+    flagging::set_flags(flags, i, j);
     j
 }
 
@@ -77,5 +77,5 @@ pub fn set_span(flags: &mut [u8], full: &mut [u16; 512], low: usize, high: usize
         set_long(flags, full, low, high);
         return;
     }
-    marks::set_flags(flags, low, high);
+    flagging::set_flags(flags, low, high);
 }

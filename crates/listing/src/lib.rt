@@ -26,8 +26,8 @@ fn collect_unicodes(s: &[u8], at: usize, kind: Kind, n: u32, points: &[u32], fla
         Kind::Format14 {
             records: _,
             length: _,
-        } => marks::clear(flags, points.len()),
-        Kind::Unreadable => marks::clear(flags, points.len()),
+        } => flagging::clear(flags, points.len()),
+        Kind::Unreadable => flagging::clear(flags, points.len()),
     }
 }
 
@@ -61,7 +61,7 @@ pub fn list_record(
     ensures { λ _. ⌜ now (toglyphs .exit) ≡ sets (now (toglyphs .entry)) 0 (glyphsOf (listed (now (s .entry)) n (now (codes .entry)) (now (glyphs .entry)) k)) ⌝ }
 {
     collect_record(s, k, n, codes, flags);
-    marks::copy_marked(flags, codes, glyphs, tocodes, toglyphs)
+    flagging::copy_marked(flags, codes, glyphs, tocodes, toglyphs)
 }
 
 // How many pairs are listed. `front` of them, if it is not 0, are the first of the columns; else they are copied.
@@ -88,13 +88,13 @@ pub fn list_front(
     ensures { λ r. ⌜ Copied (listed (now (s .entry)) n (now (codes .entry)) (now (glyphs .entry)) k) (r .front) (now (tocodes .entry)) (now (toglyphs .entry)) (now (tocodes .exit)) (now (toglyphs .exit)) ⌝ }
 {
     collect_record(s, k, n, codes, flags);
-    let front = marks::front(flags, codes.len());
+    let front = flagging::front(flags, codes.len());
     if 0 < front {
         return Listed {
             count: front,
             front,
         };
     }
-    let count = marks::copy_marked(flags, codes, glyphs, tocodes, toglyphs);
+    let count = flagging::copy_marked(flags, codes, glyphs, tocodes, toglyphs);
     Listed { count, front: 0 }
 }

@@ -1,15 +1,15 @@
--- What is left to clear, cleared from here, gives the whole.
+-- What is left to set, set from here, gives the whole.
 use borrow.Author.Needs.{needs}
 use Prim.Native.Nat.{_-_}
 use Rattle.marks.proofs.MarksLaws.{Filling, filling}
-use Rattle.marks.proofs.clear.Statement.{statement}
-use Rattle.marks.proofs.clear.Tie as tie
+use Rattle.flagging.proofs.set_all.Statement.{statement}
+use Rattle.flagging.proofs.set_all.Tie as tie
 
 abbrev Inv-loop : tie.InvT-loop
-Inv-loop flags₀ n i₀ flags i = Filling 0 flags₀ flags 0 n i
+Inv-loop flags₀ low high i₀ flags i = Filling 1 flags₀ flags low high i
 
 abbrev μ-loop : tie.MeasureT-loop
-μ-loop flags₀ n i₀ flags i = n - i
+μ-loop flags₀ low high i₀ flags i = high - i
 
 loop-holds : tie.Need-loop-holds Inv-loop μ-loop
 loop-holds c = search filling
@@ -32,8 +32,8 @@ same-length c = search needs
 returns : tie.Need-returns Inv-loop μ-loop
 returns c = search filling
 
-pub clear-spec : {M : Type 1} → statement M
-clear-spec =
+pub set-all-spec : {M : Type 1} → statement M
+set-all-spec =
     tie.close
     (tie.spec
     Inv-loop

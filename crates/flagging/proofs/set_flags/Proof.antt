@@ -1,8 +1,8 @@
 -- The first flag is set by itself, and the rest by the loop.
 use Rattle.marks.proofs.MarksLaws.{filled}
 use borrow.Author.Needs.{needs}
-use Rattle.marks.proofs.set_flags.Statement.{statement}
-use Rattle.marks.proofs.set_flags.Tie as tie
+use Rattle.flagging.proofs.set_flags.Statement.{statement}
+use Rattle.flagging.proofs.set_flags.Tie as tie
 
 returns : tie.Need-returns
 returns c = search filled

@@ -1,8 +1,8 @@
 -- The points of the stretch stand side by side, from the first not below start to the last not above end.
 use Rattle.marks.proofs.MarksLaws.{marked-filled}
 use borrow.Author.Needs.{needs}
-use Rattle.marks.proofs.mark_points_near.Statement.{statement}
-use Rattle.marks.proofs.mark_points_near.Tie as tie
+use Rattle.flagging.proofs.mark_points_near.Statement.{statement}
+use Rattle.flagging.proofs.mark_points_near.Tie as tie
 
 span-near-requires : tie.Need-span-near-requires
 span-near-requires c κs = search needs

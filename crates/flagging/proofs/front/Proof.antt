@@ -1,7 +1,7 @@
 use Rattle.marks.proofs.LeadingLaws.{fronting}
 use borrow.Author.Needs.{needs}
-use Rattle.marks.proofs.front.Statement.{statement}
-use Rattle.marks.proofs.front.Tie as tie
+use Rattle.flagging.proofs.front.Statement.{statement}
+use Rattle.flagging.proofs.front.Tie as tie
 
 first-clear-requires : tie.Need-first-clear-requires
 first-clear-requires c κs = search needs

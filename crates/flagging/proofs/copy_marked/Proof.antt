@@ -2,9 +2,9 @@
 use borrow.Author.Needs.{needs}
 use Prim.Native.Nat.{_-_}
 use lib.ListN.{length}
 use Rattle.marks.proofs.MarksLaws.{Pairing, pairing}
-use Rattle.marks.proofs.copy_marked.Statement.{statement}
-use Rattle.marks.proofs.copy_marked.Tie as tie
+use Rattle.flagging.proofs.copy_marked.Statement.{statement}
+use Rattle.flagging.proofs.copy_marked.Tie as tie
 
 abbrev Inv-loop : tie.InvT-loop
 Inv-loop flags codes glyphs tocodes₀ toglyphs₀ i₀ k₀ tocodes toglyphs i k = Pairing flags codes glyphs tocodes₀ toglyphs₀ tocodes toglyphs i k
