@@ -1,5 +1,5 @@
 -- What is noted of a record, by the kind of its subtable.
-use Prim.Native.Nat.{ℕ, zero, suc, _+_, _*_, _<_}
+use Prim.Native.Nat.{ℕ, _+_, _*_, _<_}
 use mathlib.Core.Path.{_≡_, refl, sym, ap, _∙_}
 use mathlib.Core.List.{List}
 use mathlib.Core.Logic.{inl, inr}
@@ -16,6 +16,7 @@ use Rattle.header.specs.Header.{offsetOf}
 use Rattle.source.specs.Kind.{formatOf}
 use Rattle.records.specs.Records.{leadsTo}
 use Rattle.listing.specs.Job.{Job, job}
+use Rattle.marks.proofs.MarksLaws.{clear-at}
 use Rattle.making.specs.Making.{Fronts}
 use Rattle.selector_tables.specs.Selectors.{given}
 use Rattle.selector_tables.specs.ByNumber.{slot}
@@ -29,13 +30,8 @@ module _ (xs : List ℕ) (n : ℕ) (cs gs : List ℕ) where
   pub unknown : (k : ℕ) → Fronts xs n cs gs k 0
   unknown k = record { within = omega arith; is = λ h. absurd (omega arith) }
 
-  none-noted : (m k : ℕ) → getD {A = ℕ} (replicate m 0) k 0 ≡ 0
-  none-noted zero k = refl
-  none-noted (suc m) zero = refl
-  none-noted (suc m) (suc k) = none-noted m k
-
   pub fronted-none : Fronted xs n cs gs (replicate 64 0)
-  fronted-none = record { rows = omega (arith, length-replicate {A = ℕ} 64 0); each = λ k. rw (none-noted 64 k) (unknown k) }
+  fronted-none = record { rows = omega (arith, length-replicate {A = ℕ} 64 0); each = λ k. rw (clear-at 64 k) (unknown k) }
 
   pub fronted-on : (fs : List ℕ) (k front : ℕ) → Fronted xs n cs gs fs → Fronts xs n cs gs k front → k < 64 → Fronted xs n cs gs (set fs k front)
   fronted-on fs k front f q h = record {
