@@ -9,7 +9,7 @@ import re
 
 HEAD = """# Edits that must fail
 
-`python3 tools/edits.py > docs/EDITS.md` prints this page anew after `.ci/run`, from what the prover said of each edit. "Refused at" is the first fact that no longer holds: the function (or the file of laws) and the need or law in it.
+`python3 tools/edits.py > docs/EDITS.md` prints this page anew after `.ci/run`, from what the prover said of each edit. "Refused at" is the first fact that no longer holds: the function (or the file of laws) and the need or law in it. Of `calls/core_on_glyphs` the first is a law whose proof goes by the changed definition; the one that no longer holds is `job-in-room` (`RoomLaws`), refused beside it.
 
 | edit | what it says, and the edit breaks | changed | refused at |
 |---|---|---|---|"""
