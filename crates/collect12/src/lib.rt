@@ -1,13 +1,24 @@
 // Which of a rising list of code points a format 12 subtable maps, in one walk over its groups.
 use mapped12::Stretch;
 ghost use mathlib.Core.Path.{_≡_};
-ghost use Prim.Native.Nat.{_<_};
+ghost use Prim.Native.Nat.{_+_, _*_, _<_, _≤_};
 ghost use lib.ListN.{length};
 ghost use lib.Seq.{sets};
 ghost use Rattle.marks.specs.Marks.{flagged, marked, Flags, Cleared};
 ghost use Rattle.source.specs.Room.{Room12};
 ghost use Rattle.full_flags.specs.Blocks.{Full};
-ghost use Rattle.mapped12.specs.Mapped12.{stretchHolds, maps12};
+ghost use Rattle.mapped12.specs.Mapped12.{group12, stretchHolds, maps12};
+
+// The code points that group g maps.
+fn group_at(s: &[u8], at: usize, g: usize, n: u32) -> Stretch
+    requires { ⌜ (at + 28 + 12 * g ≤ length (now s)) × (n < 65536) ⌝ }
+    ensures { λ r. ⌜ r ≡ group12 (now (s .entry)) at n g ⌝ }
+{
+    let start = number::u32_at(s, at + 16 + 12 * g);
+    let end = number::u32_at(s, at + 20 + 12 * g);
+    let glyph = number::u32_at(s, at + 24 + 12 * g);
+    mapped12::cut(start, end, glyph, n)
+}
 
 // Sets the flags of the points of a stretch to 1; where the next stretch's points most likely begin.
 fn mark_stretch(
@@ -53,7 +64,7 @@ fn mark_groups_by(
     let mut near = 0;
     let mut g = 0;
     while g < groups {
-        let stretch = mapped12::group_at(s, at, g, n);
+        let stretch = group_at(s, at, g, n);
         near = mark_stretch(flags, full, points, stretch, near);
         g += 1;
     }

@@ -1,59 +1,15 @@
-// Which code points a format 4 subtable maps: asked for one, and for all of a rising list at once, in one walk over the segments, in order
-// or from the last to the first.
+// Which code points of a rising list a format 4 subtable maps, asked for all at once in one walk over the segments, in order or from the
+// last to the first.
 use mapped4::Segment;
 ghost use mathlib.Core.Path.{_≡_};
 ghost use Prim.Native.Nat.{_≤_, _<_};
 ghost use lib.ListN.{length};
 ghost use lib.Seq.{sets};
-ghost use Rattle.laws.specs.Choice.{pick};
 ghost use Rattle.marks.specs.Marks.{flagged, flagOf, painted, Flags, Cleared};
 ghost use Rattle.source.specs.Room.{Room4};
 ghost use Rattle.mapped4.specs.Mapped4.{Read4, says4, holds4, among4, maps4};
 ghost use Rattle.downward4.specs.Downward.{Noted};
 ghost use Rattle.collect4.specs.Walks.{Telling, Settled, Walked};
-
-// What is said of c up to segment i, where `before` is what was said before it.
-fn decide(
-    s: &[u8],
-    at: usize,
-    segs: usize,
-    len: usize,
-    i: usize,
-    segment: Segment,
-    c: u32,
-    before: bool,
-) -> bool
-    requires { ⌜ Room4 (now s) at segs len ⌝ }
-    requires { ⌜ Read4 (now s) at segs i segment ⌝ }
-    requires { ⌜ i < segs ⌝ }
-    ensures { λ r. ⌜ r ≡ pick (holds4 segment c) (says4 (now (s .entry)) at segs len i segment c) before ⌝ }
-{
-    if c < segment.start {
-        return before;
-    }
-    if segment.end < c {
-        return before;
-    }
-    mapped4::segment_maps(s, at, segs, len, i, segment, c)
-}
-
-// Whether the subtable maps c.
-pub fn is_mapped4(s: &[u8], at: usize, segs: usize, len: usize, c: u32) -> bool
-    requires { ⌜ Room4 (now s) at segs len ⌝ }
-    ensures { λ r. ⌜ r ≡ maps4 (now (s .entry)) at segs len c ⌝ }
-{
-    let mut mapped = false;
-    let mut i = 0;
-    while i < segs {
-        let segment = mapped4::segment_at(s, at, segs, i);
-        if segment.start == Segment::WALK_END {
-            return mapped;
-        }
-        mapped = decide(s, at, segs, len, i, segment, c, mapped);
-        i += 1;
-    }
-    mapped
-}
 
 fn flag_of(mapped: bool) -> u8
     ensures { λ r. ⌜ r ≡ flagOf mapped ⌝ }
@@ -90,7 +46,7 @@ fn mark_segment(
     let mut j = span.low;
     while j < span.high {
         let c = points[j];
-        flags[j] = flag_of(mapped4::segment_maps(s, at, segs, len, i, segment, c));
+        flags[j] = flag_of(segments::segment_maps(s, at, segs, len, i, segment, c));
         j += 1;
     }
     span.high
@@ -119,7 +75,7 @@ fn mark_in_order(
     let mut past = 0;
     let mut i = 0;
     while i < segs {
-        let segment = mapped4::segment_at(s, at, segs, i);
+        let segment = segments::segment_at(s, at, segs, i);
         if segment.start == Segment::WALK_END {
             return true;
         }
@@ -149,9 +105,9 @@ fn mark_down_by(
     requires { ⌜ Noted (now noted) (now flags) ⌝ }
     ensures { λ _. ⌜ Telling (maps4 (now (s .entry)) at segs len) (among4 (now (s .entry)) at segs len 0) (now (points .entry)) (now (flags .entry)) (now (flags .exit)) ⌝ }
 {
-    let mut i = mapped4::walk_end(s, at, segs);
+    let mut i = segments::walk_end(s, at, segs);
     while 0 < i {
-        let segment = mapped4::segment_at(s, at, segs, i - 1);
+        let segment = segments::segment_at(s, at, segs, i - 1);
         downward4::decide_segment(s, at, segs, len, i - 1, segment, points, flags, noted);
         i -= 1;
     }

@@ -20,7 +20,7 @@ use Rattle.marks.proofs.MarksLaws.{length-flagged}
 use Rattle.marks.proofs.BelowLaws.{below-tail}
 use Rattle.listing.specs.Listing.{maps, Beside}
 use Rattle.covering.specs.Covered.{reachesAbove, mapAlike, siblingCovers, isSet, someSet, isOther, flagsDiffer, Rooms}
-use Rattle.sibling.specs.Sibling.{firstSibling}
+use Rattle.covering.specs.Sibling.{firstSibling}
 use borrow.Author.Tests.{lt-ltb, le-ltb, le-leb, lt-leb, eq-eqb, ne-eqb}
 
 flagged-at : (m : ℕ → Bool) (ps : List ℕ) (i : ℕ) → i < length ps → getD (flagged m ps) i 0 ≡ flagOf (m (getD ps i 0))

@@ -11,7 +11,7 @@ use Rattle.laws.specs.Select.{select, anyOf, eqList}
 use Rattle.header.specs.Header.{recordCount}
 use Rattle.records.specs.Records.{leadsToFormat, Counted}
 use Rattle.listing.specs.Listing.{maps}
-use Rattle.sibling.specs.Sibling.{firstSibling}
+use Rattle.covering.specs.Sibling.{firstSibling}
 
 -- ---- the kept points it maps
 

@@ -1,2 +1,0 @@
-pub mod NewLaws
-pub mod CoversLaws

@@ -47,7 +47,10 @@ fn decide_points(
     while j < high {
         let c = points[j];
         let flag = flags[j];
-        flags[j] = decided_flag(flag, mapped4::segment_maps(s, at, segs, len, i, segment, c));
+        flags[j] = decided_flag(
+            flag,
+            segments::segment_maps(s, at, segs, len, i, segment, c),
+        );
         j += 1;
     }
 }

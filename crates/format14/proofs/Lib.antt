@@ -6,3 +6,4 @@ pub mod Format14Cases
 pub mod OffsetsLaws
 pub mod VariantsLaws
 pub mod DefaultsLaws
+pub mod GivesLaws

@@ -17,8 +17,8 @@ use Rattle.selector_tables.specs.Selectors.{Given, selectorRecords, defaultOffs
 use Rattle.selector_tables.specs.ByNumber.{slot, tableMax}
 use Rattle.selector_tables.proofs.ShapeLaws.{length-default, length-non-default}
 use Rattle.selector_tables.proofs.ByNumberLaws.{counts-fits}
-use Rattle.placing.specs.Ends.{from}
-use Rattle.placing.proofs.SlotsLaws.{from-missing, from-there}
+use Rattle.selector_tables.specs.Ends.{from}
+use Rattle.selector_tables.proofs.SlotsLaws.{from-missing, from-there}
 use Rattle.format14.specs.Format14.{rowOf, used, rows, written, lengthOf}
 use Rattle.format14.proofs.RowsLaws.{written-rows}
 

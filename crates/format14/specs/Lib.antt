@@ -1,3 +1,4 @@
 pub mod Format14
 pub mod Parts
 pub mod Variants
+pub mod Gives

@@ -11,7 +11,7 @@ use Rattle.number.specs.BigEndian.{be}
 use Rattle.uvs.specs.Tables.{countsDefault, countsNonDefault}
 use Rattle.uvs.specs.Default.{coveredBy}
 use Rattle.uvs.specs.NonDefault.{mappings}
-use Rattle.non_default_uvs.specs.Gives.{glyphsFor}
+use Rattle.format14.specs.Gives.{glyphsFor}
 
 -- the mappings of record k's non-default table, none if it does not count
 unfoldable pub recordMappings : List ℕ → ℕ → ℕ → ℕ → List Pair

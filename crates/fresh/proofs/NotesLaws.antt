@@ -20,7 +20,7 @@ use Rattle.marks.proofs.MarksLaws.{clear-at}
 use Rattle.making.specs.Making.{Fronts}
 use Rattle.selector_tables.specs.Selectors.{given}
 use Rattle.selector_tables.specs.ByNumber.{slot}
-use Rattle.placing.specs.Ends.{Ends}
+use Rattle.selector_tables.specs.Ends.{Ends}
 use Rattle.outcomes.specs.declared.Outcome.{Outcome}
 use Rattle.fresh.specs.Notes.{Fronted, Ended, Turned}
 

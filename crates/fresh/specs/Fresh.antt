@@ -18,7 +18,7 @@ use Rattle.format4.specs.Format4.{format4}
 use Rattle.format4.specs.Size.{sizeOf as sizeOf4, lengthOf as lengthOf4}
 use Rattle.format12.specs.Format12.{format12, sizeOf as sizeOf12}
 use Rattle.making.specs.Making.{Pairs}
-use Rattle.same_uvs.specs.Streams.{CodePoints}
+use Rattle.selector_tables.specs.Streams.{CodePoints}
 use Rattle.selector_tables.specs.Selectors.{Given, given}
 use Rattle.format14.specs.declared.Outcome.{Outcome as Outcome14}
 use Rattle.format14.specs.declared.Outcome.the-variants.{Refused8, Empty as Empty14, Length}

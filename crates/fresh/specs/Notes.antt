@@ -14,7 +14,7 @@ use Rattle.records.specs.Records.{leadsTo}
 use Rattle.listing.specs.Job.{Job, glyphCount}
 use Rattle.making.specs.Making.{Fronts}
 use Rattle.selector_tables.specs.ByNumber.{slot}
-use Rattle.placing.specs.Ends.{Ends}
+use Rattle.selector_tables.specs.Ends.{Ends}
 use Rattle.outcomes.specs.declared.Outcome.{Outcome}
 use Rattle.outcomes.specs.Outcomes.{isMade}
 use Rattle.fresh.specs.Fresh.{givenOf}

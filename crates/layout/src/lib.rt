@@ -15,7 +15,7 @@ pub fn names_missing(os: [Outcome; 64]) -> bool
 {
     let mut k = 0;
     while k < 64 {
-        if outcomes::is_bad(os[k]) {
+        if outcome_tests::is_bad(os[k]) {
             return true;
         }
         k += 1;
@@ -28,7 +28,7 @@ fn counts(s: &[u8], os: [Outcome; 64], k: usize) -> bool
     requires { ⌜ Inside (now s) k ⌝ }
     ensures { λ r. ⌜ r ≡ counts (now (s .entry)) os k ⌝ }
 {
-    if outcomes::is_made(os[k]) {
+    if outcome_tests::is_made(os[k]) {
         return is_plain(s, k);
     }
     false

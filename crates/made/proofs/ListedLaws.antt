@@ -17,7 +17,7 @@ use Rattle.source.specs.Kind.{formatOf}
 use Rattle.records.specs.Records.{leadsTo}
 use Rattle.listing.specs.Job.{Job, glyphCount}
 use Rattle.listing.specs.Listing.{maps, listed, codesOf}
-use Rattle.making4.proofs.Making4Laws.{listed-below}
+use Rattle.making.proofs.BelowLaws.{listed-below}
 use Rattle.cut_lookup.specs.Lookup.{Fits, Listed}
 use Rattle.format12_lookup.specs.Lookup.{Above, above-none, above-more}
 use Rattle.format12_lookup.proofs.LookupLaws.{above-pairs}

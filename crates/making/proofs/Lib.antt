@@ -1,1 +1,2 @@
 pub mod MakingLaws
+pub mod BelowLaws

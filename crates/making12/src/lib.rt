@@ -38,7 +38,7 @@ pub fn size12(
     ensures { λ r. ⌜ r .size ≡ sizeOf12 (listed (now (s .entry)) n (now (codes .entry)) (now (glyphs .entry)) k) ⌝ }
     ensures { λ r. ⌜ Fronts (now (s .entry)) n (now (codes .entry)) (now (glyphs .entry)) k (r .front) ⌝ }
 {
-    let listed = listing::list_front(s, k, n, codes, glyphs, flags, tocodes, toglyphs);
+    let listed = collecting::list_front(s, k, n, codes, glyphs, flags, tocodes, toglyphs);
     let front = listed.front;
     if 0 < front {
         let size = size12_of(codes, glyphs, front);
@@ -99,6 +99,6 @@ pub fn write12(
         write12_first(out, at, language, codes, glyphs, front);
         return;
     }
-    let m = listing::list_record(s, k, n, codes, glyphs, flags, tocodes, toglyphs);
+    let m = collecting::list_record(s, k, n, codes, glyphs, flags, tocodes, toglyphs);
     write12_first(out, at, language, tocodes, toglyphs, m);
 }

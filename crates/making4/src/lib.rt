@@ -44,7 +44,7 @@ pub fn size4(
     ensures { λ r. ⌜ r .size ≡ sizeOf4 (listed (now (s .entry)) n (now (codes .entry)) (now (glyphs .entry)) k) ⌝ }
     ensures { λ r. ⌜ Fronts (now (s .entry)) n (now (codes .entry)) (now (glyphs .entry)) k (r .front) ⌝ }
 {
-    let listed = listing::list_front(s, k, n, codes, glyphs, flags, tocodes, toglyphs);
+    let listed = collecting::list_front(s, k, n, codes, glyphs, flags, tocodes, toglyphs);
     let front = listed.front;
     if 0 < front {
         let size = size4_of(codes, glyphs, front);
@@ -112,6 +112,6 @@ pub fn write4(
         write4_first(out, at, language, codes, glyphs, front);
         return;
     }
-    let m = listing::list_record(s, k, n, codes, glyphs, flags, tocodes, toglyphs);
+    let m = collecting::list_record(s, k, n, codes, glyphs, flags, tocodes, toglyphs);
     write4_first(out, at, language, tocodes, toglyphs, m);
 }

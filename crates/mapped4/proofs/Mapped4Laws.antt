@@ -41,29 +41,4 @@ module _ (xs : List ℕ) (at s : ℕ) where
     unfolding lastSays
     among-on i c g r = rw (add-one i, r .is)
 
-    -- i segments are walked: what is said of c so far
-    pub record Walking (c i : ℕ) (b : Bool) : Type 0 where
-      pub looking : Looking (stops4 xs at s) s i
-      pub is : b ≡ among4 xs at s len i c
-
-    pub walking-start : (c : ℕ) → Walking c 0 false
-    unfolding lastSays
-    walking-start c = record { looking = looking-start (stops4 xs at s) s; is = refl }
-
-    module _ (c i : ℕ) (b : Bool) where
-      pub walking-on : (g : Segment) (d : Bool) → Walking c i b → i < s → Read4 xs at s i g → (g .start ≡ 0xFFFF → ⊥)
-          → d ≡ pick (holds4 g c) (says4 xs at s len i g c) b → Walking c (i + 1) d
-      walking-on g d w h r e q =
-          record { looking = stop-on i g (w .looking) h r e; is = q ∙ rw (w .is) (among-on i c g r) }
-
-      pub walking-stop : (g : Segment) → Walking c i b → i < s → Read4 xs at s i g → g .start ≡ 0xFFFF → b ≡ maps4 xs at s len c
-      unfolding maps4
-      walking-stop g w h r e = rw (← stop-here i g (w .looking) h r e) (w .is)
-
-      pub walking-end : Walking c i b → s ≤ i → b ≡ maps4 xs at s len c
-      unfolding maps4
-      walking-end w h = rw (← looking-none (w .looking) h) (w .is)
-
 pub ruleset stopping = (looking-start, stop-on, stop-here, looking-none)
-
-pub ruleset walking = (walking-start, walking-on, walking-stop, walking-end)

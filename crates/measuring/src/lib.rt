@@ -65,7 +65,7 @@ fn measure_one(
             refused: refused,
         };
     }
-    let table = selector_tables::measure_table(s, at, len, kept, map, requested, flags, t, off);
+    let table = uvs_tables::measure_table(s, at, len, kept, map, requested, flags, t, off);
     if table.bad {
         return Measured {
             size: table.size,
@@ -105,7 +105,7 @@ pub fn measure(
     let mut t = 0;
     let mut refused = false;
     while t < m {
-        let off = selector_tables::source_table(s, at, len, kept, requested, t);
+        let off = uvs_tables::source_table(s, at, len, kept, requested, t);
         let table = measure_one(
             s,
             at,

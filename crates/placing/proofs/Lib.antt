@@ -1,3 +1,2 @@
-pub mod SlotsLaws
 pub mod PlacingLaws
 pub mod EqualLaws

@@ -6,7 +6,7 @@ ghost use Rattle.laws.specs.Select.{eqList};
 ghost use Rattle.number.specs.BigEndian.{be};
 ghost use Rattle.selector_tables.specs.Selectors.{given};
 ghost use Rattle.selector_tables.specs.ByNumber.{slot, Readable, Numbered, All, Lengths, Sums};
-ghost use Rattle.placing.specs.Ends.{laterEqual, Ends, Total};
+ghost use Rattle.selector_tables.specs.Ends.{laterEqual, Ends, Total};
 
 // Whether tables t and j, the first of them there, are equal. Lengths and checksums rule most out. The flags are work room.
 fn equal_tables(
@@ -37,7 +37,7 @@ fn equal_tables(
     if sums[t] != sums[j] {
         return false;
     }
-    selector_tables::same_table(s, at, len, kept, map, requested, flags, others, t, j)
+    uvs_tables::same_table(s, at, len, kept, map, requested, flags, others, t, j)
 }
 
 // The next table after t, which is there, that equals it; m if none does.

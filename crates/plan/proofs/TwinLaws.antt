@@ -13,7 +13,7 @@ use Rattle.laws.proofs.ChoiceLaws.{both-left, both-right, false-true}
 use Rattle.laws.proofs.FirstLaws.{first-ext, first-holds}
 use Rattle.header.specs.Header.{recordCount, platformOf, encodingOf, offsetOf}
 use Rattle.records.specs.Records.{leadsTo, bmpPair, fullPair, retained}
-use Rattle.sibling.specs.Sibling.{isSibling, firstSibling}
+use Rattle.covering.specs.Sibling.{isSibling, firstSibling}
 use Rattle.covering.specs.Covered.{reachesAbove, mapAlike, siblingCovers, covered}
 use Rattle.listing.specs.Job.{Job, job, glyphCount}
 use Rattle.listing.specs.Listing.{maps}

@@ -15,7 +15,7 @@ use Rattle.records.specs.Records.{leadsToFormat, retained, Counted}
 use Rattle.listing.specs.Job.{Job, glyphCount}
 use Rattle.listing.specs.Listing.{Columns}
 use Rattle.covering.specs.Covered.{covered}
-use Rattle.same_uvs.specs.Streams.{CodePoints}
+use Rattle.selector_tables.specs.Streams.{CodePoints}
 use Rattle.outcomes.specs.declared.Outcome.{Outcome}
 use Rattle.outcomes.specs.declared.Outcome.the-variants.{NotRetained, Covered, Served}
 use Rattle.outcomes.specs.Outcomes.{isMade, isBad, server}

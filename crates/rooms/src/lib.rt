@@ -89,7 +89,7 @@ fn carry_out_on(
     let mut fronts = [0usize; 64];
     let mut ends = [0usize; 1024];
     let m = concluding::record_count(s);
-    let os = plan::plan(
+    let os = planning::plan(
         s,
         m,
         codes,

@@ -12,7 +12,7 @@ use Rattle.number.proofs.BigEndianLaws.{length-enc, be-front, be-enc-fits}
 use Rattle.uvs.specs.Tables.{table}
 use Rattle.uvs.specs.Default.{newDefault, newRecords, rangeBytes}
 use Rattle.uvs.specs.NonDefault.{newNonDefault, keptMappings, keepsMapping, mappings, mappingAt, mappingBytes}
-use Rattle.default_uvs.proofs.CoversLaws.{length-records}
+use Rattle.selector_tables.proofs.CoversLaws.{length-records}
 use Rattle.default_ranges.proofs.StreamLaws.{range-size}
 use Rattle.uvs_mapping.proofs.MappingLaws.{mapping-size}
 

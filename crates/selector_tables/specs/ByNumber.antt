@@ -11,7 +11,7 @@ use Rattle.marks.specs.Marks.{holds}
 use Rattle.number.specs.BigEndian.{be}
 use Rattle.uvs.specs.Checksum.{checksum}
 use Rattle.uvs.specs.Tables.{counts}
-use Rattle.same_uvs.specs.Streams.{CodePoints}
+use Rattle.selector_tables.specs.Streams.{CodePoints}
 use Rattle.selector_tables.specs.Selectors.{Given, keepsSelector, defaultTable, nonDefaultTable, badKept}
 
 -- new table t: none where the selector is not kept

@@ -1,2 +1,5 @@
 pub mod Selectors
 pub mod ByNumber
+pub mod Ends
+pub mod SelectorRecords
+pub mod Streams

@@ -22,7 +22,7 @@ use Rattle.making.specs.Making.{Fronts}
 use Rattle.making4.specs.Fits4.{Fits4}
 use Rattle.selector_tables.specs.Selectors.{given}
 use Rattle.selector_tables.specs.ByNumber.{slot}
-use Rattle.placing.specs.Ends.{Ends}
+use Rattle.selector_tables.specs.Ends.{Ends}
 use Rattle.format14.specs.Format14.{format14, rows, lengthOf}
 use Rattle.format14.proofs.WholeLaws.{length-format14}
 use Rattle.outcomes.specs.declared.Outcome.the-variants.{Made}

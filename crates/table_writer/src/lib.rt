@@ -71,7 +71,7 @@ pub fn write_table(
         ),
         Kind::Format14 { records: _, length } => {
             let at = header::offset_of(s, k);
-            format14::serialize(
+            format14_writer::serialize(
                 out,
                 place,
                 s,

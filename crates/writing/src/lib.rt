@@ -37,7 +37,7 @@ fn write_tables(
         let o = os[k];
         let size = layout::size_of(o);
         let next = place + size;
-        if outcomes::is_made(o) {
+        if outcome_tests::is_made(o) {
             table_writer::write_table(
                 out,
                 place,

@@ -1,0 +1,149 @@
+// What becomes of a record that no earlier table serves.
+use outcomes::Outcome;
+use source::Kind;
+ghost use mathlib.Core.Path.{_≡_};
+ghost use Prim.Native.Nat.{_+_, _*_, _<_, _≤_};
+ghost use lib.ListN.{length};
+ghost use Rattle.number.specs.BigEndian.{be};
+ghost use Rattle.listing.specs.Job.{job};
+ghost use Rattle.listing.specs.Listing.{listed};
+ghost use Rattle.format4.specs.Size.{sizeOf as sizeOf4};
+ghost use Rattle.format12.specs.Format12.{sizeOf as sizeOf12};
+ghost use Rattle.making.specs.Making.{Pairs, Leads};
+ghost use Rattle.selector_tables.specs.Selectors.{given};
+ghost use Rattle.selector_tables.specs.ByNumber.{slot, Readable};
+ghost use Rattle.selector_tables.specs.Ends.{Ends};
+ghost use Rattle.format14.specs.Format14.{lengthIn, outcome as outcome14};
+ghost use Rattle.outcomes.specs.declared.Outcome.the-variants.{Made};
+ghost use Rattle.outcomes.specs.Outcomes.{Short};
+ghost use Rattle.fresh.specs.Fresh.{by4, by14, fresh, Short4, Ready};
+ghost use Rattle.fresh.specs.Notes.{Fronted, Turned, Notebook};
+
+fn of_size4(size: format4::Size) -> Outcome
+    requires { ⌜ Short4 size ⌝ }
+    ensures { λ r. ⌜ (r ≡ by4 size) × Short r ⌝ }
+{
+    match size {
+        format4::Size::Empty => Outcome::Empty,
+        format4::Size::TooLong => Outcome::TooLong,
+        format4::Size::Fits(n) => Outcome::Made(16 + 8 * n.segments + 2 * n.glyphs),
+    }
+}
+
+fn of_outcome14(outcome: format14::Outcome) -> Outcome
+    requires { ⌜ lengthIn outcome < 4294967296 ⌝ }
+    ensures { λ r. ⌜ (r ≡ by14 outcome) × Short r ⌝ }
+{
+    match outcome {
+        format14::Outcome::Refused8 => Outcome::BadMapping,
+        format14::Outcome::Empty => Outcome::Empty,
+        format14::Outcome::Length(n) => Outcome::Made(n),
+    }
+}
+
+fn fresh4(
+    s: &[u8],
+    k: usize,
+    n: u32,
+    codes: &[u32],
+    glyphs: &[u16],
+    flags: &mut [u8],
+    tocodes: &mut [u32],
+    toglyphs: &mut [u16],
+    fronts: &mut [usize],
+) -> Outcome
+    requires { ⌜ Pairs (now s) k n (now codes) (now glyphs) (now flags) (now tocodes) (now toglyphs) ⌝ }
+    requires { ⌜ Leads (now s) k 4 ⌝ }
+    requires { ⌜ (k < 64) × Fronted (now s) n (now codes) (now glyphs) (now fronts) ⌝ }
+    ensures { λ r. ⌜ (r ≡ by4 (sizeOf4 (listed (now (s .entry)) n (now (codes .entry)) (now (glyphs .entry)) k))) × Short r ⌝ }
+    ensures { λ _. ⌜ Fronted (now (s .entry)) n (now (codes .entry)) (now (glyphs .entry)) (now (fronts .exit)) ⌝ }
+{
+    let sized = making4::size4(s, k, n, codes, glyphs, flags, tocodes, toglyphs);
+    fronts[k] = sized.front;
+    let size = sized.size;
+    of_size4(size)
+}
+
+fn fresh12(
+    s: &[u8],
+    k: usize,
+    n: u32,
+    codes: &[u32],
+    glyphs: &[u16],
+    flags: &mut [u8],
+    tocodes: &mut [u32],
+    toglyphs: &mut [u16],
+    fronts: &mut [usize],
+) -> Outcome
+    requires { ⌜ Pairs (now s) k n (now codes) (now glyphs) (now flags) (now tocodes) (now toglyphs) ⌝ }
+    requires { ⌜ (k < 64) × Fronted (now s) n (now codes) (now glyphs) (now fronts) ⌝ }
+    ensures { λ r. ⌜ (r ≡ Made (sizeOf12 (listed (now (s .entry)) n (now (codes .entry)) (now (glyphs .entry)) k) .bytes)) × Short r ⌝ }
+    ensures { λ _. ⌜ Fronted (now (s .entry)) n (now (codes .entry)) (now (glyphs .entry)) (now (fronts .exit)) ⌝ }
+{
+    let sized = making12::size12(s, k, n, codes, glyphs, flags, tocodes, toglyphs);
+    fronts[k] = sized.front;
+    let size = sized.size;
+    Outcome::Made(size.bytes)
+}
+
+fn fresh14(
+    s: &[u8],
+    at: usize,
+    len: usize,
+    kept: &[u32],
+    map: &[u16],
+    requested: &[u16],
+    flags: &mut [u8],
+    others: &mut [u8],
+    ends: &mut [usize],
+) -> Outcome
+    requires { ⌜ Readable (now s) at len (now kept) (now requested) ⌝ }
+    requires { ⌜ (length (now kept) ≤ length (now flags)) × (length (now kept) ≤ length (now others)) ⌝ }
+    requires { ⌜ 1024 ≤ length (now ends) ⌝ }
+    ensures { λ r. ⌜ (r ≡ by14 (outcome14 (given (now (s .entry)) at len (now (kept .entry)) (now (map .entry)) (now (requested .entry))))) × Short r ⌝ }
+    ensures { λ _. ⌜ Ends (slot (given (now (s .entry)) at len (now (kept .entry)) (now (map .entry)) (now (requested .entry)))) (2 * be 4 (now (s .entry)) (at + 6)) (now (ends .exit)) ⌝ }
+{
+    of_outcome14(format14_writer::size(s, at, len, kept, map, requested, flags, others, ends))
+}
+
+// What becomes of record k if no earlier table serves it, and what its writer may go by.
+pub fn fresh(
+    s: &[u8],
+    codes: &[u32],
+    glyphs: &[u16],
+    kept: &[u32],
+    map: &[u16],
+    requested: &[u16],
+    flags: &mut [u8],
+    others: &mut [u8],
+    tocodes: &mut [u32],
+    toglyphs: &mut [u16],
+    fronts: &mut [usize],
+    ends: &mut [usize],
+    k: usize,
+) -> Outcome
+    requires { ⌜ Ready (job (now s) (now codes) (now glyphs) (now kept) (now map) (now requested)) k (now flags) (now tocodes) (now toglyphs) ⌝ }
+    requires { ⌜ Notebook (job (now s) (now codes) (now glyphs) (now kept) (now map) (now requested)) k (now others) (now fronts) (now ends) ⌝ }
+    ensures { λ r. ⌜ (r ≡ fresh (job (now (s .entry)) (now (codes .entry)) (now (glyphs .entry)) (now (kept .entry)) (now (map .entry)) (now (requested .entry))) k) × Short r ⌝ }
+    ensures { λ _. ⌜ Fronted (now (s .entry)) (length (now (map .entry))) (now (codes .entry)) (now (glyphs .entry)) (now (fronts .exit)) ⌝ }
+    ensures { λ r. ⌜ Turned (job (now (s .entry)) (now (codes .entry)) (now (glyphs .entry)) (now (kept .entry)) (now (map .entry)) (now (requested .entry))) k r (now (ends .entry)) (now (ends .exit)) ⌝ }
+{
+    let n = map.len() as u32;
+    match records::leads_to(s, k) {
+        Kind::Format4 {
+            language: _,
+            segments: _,
+            length: _,
+        } => fresh4(s, k, n, codes, glyphs, flags, tocodes, toglyphs, fronts),
+        Kind::Format12 {
+            language: _,
+            groups: _,
+            length: _,
+        } => fresh12(s, k, n, codes, glyphs, flags, tocodes, toglyphs, fronts),
+        Kind::Format14 { records: _, length } => {
+            let at = header::offset_of(s, k);
+            fresh14(s, at, length, kept, map, requested, flags, others, ends)
+        }
+        Kind::Unreadable => Outcome::Skipped,
+    }
+}
