@@ -36,10 +36,10 @@ fn mark_stretch(
     if stretch.end < stretch.start {
         return near;
     }
-    if marks::is_passed(points, stretch.start, stretch.end, near) {
+    if spans::is_passed(points, stretch.start, stretch.end, near) {
         return near;
     }
-    let span = marks::span_near(points, stretch.start, stretch.end, near);
+    let span = spans::span_near(points, stretch.start, stretch.end, near);
     full_flags::set_span(flags, full, span.low, span.high);
     span.high
 }

@@ -39,10 +39,10 @@ fn mark_segment(
     requires { ⌜ Flags (now points) (now flags) ⌝ }
     ensures { λ _. ⌜ now (flags .exit) ≡ painted (holds4 segment) (says4 (now (s .entry)) at segs len i segment) (now (points .entry)) (now (flags .entry)) ⌝ }
 {
-    if marks::is_passed(points, segment.start, segment.end, near) {
+    if spans::is_passed(points, segment.start, segment.end, near) {
         return near;
     }
-    let span = marks::span_near(points, segment.start, segment.end, near);
+    let span = spans::span_near(points, segment.start, segment.end, near);
     let mut j = span.low;
     while j < span.high {
         let c = points[j];

@@ -139,7 +139,7 @@ pub fn decide_segment(
     ensures { λ _. ⌜ DecidedBy (holds4 segment) (says4 (now (s .entry)) at segs len i segment) (now (points .entry)) (now (flags .entry)) (now (flags .exit)) ⌝ }
     ensures { λ _. ⌜ Noted (now (noted .exit)) (now (flags .exit)) ⌝ }
 {
-    let span = marks::span_near(points, segment.start, segment.end, 0);
+    let span = spans::span_near(points, segment.start, segment.end, 0);
     if span.low < span.high {
         decide_blocks(
             s,

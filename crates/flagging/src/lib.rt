@@ -69,7 +69,7 @@ pub fn mark_points_near(
     ensures { λ r. ⌜ Bound (now (points .entry)) (end + 1) r ⌝ }
     ensures { λ _. ⌜ now (flags .exit) ≡ marked (between start end) (now (points .entry)) (now (flags .entry)) ⌝ }
 {
-    let span = marks::span_near(points, start, end, near);
+    let span = spans::span_near(points, start, end, near);
     set_flags(flags, span.low, span.high);
     span.high
 }

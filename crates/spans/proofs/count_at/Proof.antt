@@ -1,8 +1,8 @@
 -- The count is told by two looks, or searched.
 use Rattle.marks.proofs.BelowLaws.{counted}
 use borrow.Author.Needs.{needs}
-use Rattle.marks.proofs.count_at.Statement.{statement}
-use Rattle.marks.proofs.count_at.Tie as tie
+use Rattle.spans.proofs.count_at.Statement.{statement}
+use Rattle.spans.proofs.count_at.Tie as tie
 
 is-count-requires : tie.Need-is-count-requires
 is-count-requires c κs = search needs

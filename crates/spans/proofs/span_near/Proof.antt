@@ -1,9 +1,9 @@
 -- What is listed whole is counted by its first and its last.
 use native.Mathlib.Omega.{arith}
 use Rattle.marks.proofs.BelowLaws.{listing, listed-says}
 use borrow.Author.Needs.{needs}
-use Rattle.marks.proofs.span_near.Statement.{statement}
-use Rattle.marks.proofs.span_near.Tie as tie
+use Rattle.spans.proofs.span_near.Statement.{statement}
+use Rattle.spans.proofs.span_near.Tie as tie
 
 is-listed-requires : tie.Need-is-listed-requires
 is-listed-requires c κs = search needs

@@ -1,8 +1,8 @@
 -- Two looks tell it.
 use Rattle.marks.proofs.BelowLaws.{passing}
 use borrow.Author.Needs.{needs}
-use Rattle.marks.proofs.is_passed.Statement.{statement}
-use Rattle.marks.proofs.is_passed.Tie as tie
+use Rattle.spans.proofs.is_passed.Statement.{statement}
+use Rattle.spans.proofs.is_passed.Tie as tie
 
 returns : tie.Need-returns
 returns c = search passing

@@ -1,9 +1,9 @@
 -- The first of the points behind i is the least of them.
 use native.Mathlib.Omega.{arith}
 use Rattle.marks.proofs.BelowLaws.{counted}
 use borrow.Author.Needs.{needs}
-use Rattle.marks.proofs.suffices.Statement.{statement}
-use Rattle.marks.proofs.suffices.Tie as tie
+use Rattle.spans.proofs.suffices.Statement.{statement}
+use Rattle.spans.proofs.suffices.Tie as tie
 
 mul-result : tie.Need-mul-result
 mul-result c = search needs

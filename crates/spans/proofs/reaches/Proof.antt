@@ -1,10 +1,10 @@
 -- The last of i points of a rising list is the greatest of them.
 use native.Mathlib.Omega.{arith}
 use Prim.Native.Nat.{_-_}
 use Rattle.marks.proofs.BelowLaws.{counted}
 use borrow.Author.Needs.{needs}
-use Rattle.marks.proofs.reaches.Statement.{statement}
-use Rattle.marks.proofs.reaches.Tie as tie
+use Rattle.spans.proofs.reaches.Statement.{statement}
+use Rattle.spans.proofs.reaches.Tie as tie
 
 sub-result : tie.Need-sub-result
 sub-result c = search needs

@@ -1,8 +1,8 @@
 -- The two looks tell it both ways.
 use Rattle.marks.proofs.BelowLaws.{counted}
 use borrow.Author.Needs.{needs}
-use Rattle.marks.proofs.is_count.Statement.{statement}
-use Rattle.marks.proofs.is_count.Tie as tie
+use Rattle.spans.proofs.is_count.Statement.{statement}
+use Rattle.spans.proofs.is_count.Tie as tie
 
 returns : tie.Need-returns
 returns c = search counted

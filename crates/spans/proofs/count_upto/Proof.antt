@@ -1,8 +1,8 @@
 -- None, all, or what a search finds.
 use Rattle.marks.proofs.BelowLaws.{counted}
 use borrow.Author.Needs.{needs}
-use Rattle.marks.proofs.count_upto.Statement.{statement}
-use Rattle.marks.proofs.count_upto.Tie as tie
+use Rattle.spans.proofs.count_upto.Statement.{statement}
+use Rattle.spans.proofs.count_upto.Tie as tie
 
 add-past : tie.Need-add-past
 add-past c = search needs

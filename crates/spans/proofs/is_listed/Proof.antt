@@ -1,9 +1,9 @@
 -- The tests are the definition's own.
 use Rattle.laws.proofs.ChoiceLaws.{tests}
 use Rattle.marks.specs.Marks.{listed}
 use borrow.Author.Needs.{needs}
-use Rattle.marks.proofs.is_listed.Statement.{statement}
-use Rattle.marks.proofs.is_listed.Tie as tie
+use Rattle.spans.proofs.is_listed.Statement.{statement}
+use Rattle.spans.proofs.is_listed.Tie as tie
 
 returns : tie.Need-returns
 unfolding listed
