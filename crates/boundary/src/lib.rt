@@ -25,7 +25,7 @@ pub fn subset_on_room(
         × (now (codes .exit) ≡ now (codes .entry)) × (now (glyphs .exit) ≡ now (glyphs .entry))
         × (now (out .exit) ≡ outputOf (job (now (source .entry)) (take n (now (codes .entry))) (take n (now (glyphs .entry))) (now (kept .entry)) (now (map .entry)) (now (requested .entry))) (now (out .entry))) ⌝ }
 {
-    told::tell(cmap::subset(source, &codes[..n], &glyphs[..n], kept, map, requested, out))
+    telling::tell(cmap::subset(source, &codes[..n], &glyphs[..n], kept, map, requested, out))
 }
 
 pub fn fate_on_room(
@@ -42,5 +42,5 @@ pub fn fate_on_room(
     ensures { λ r. ⌜ (r ≡ toldFate (fateOf (job (now (source .entry)) (take n (now (codes .entry))) (take n (now (glyphs .entry))) (now (kept .entry)) (now (map .entry)) (now (requested .entry))) k))
         × (now (codes .exit) ≡ now (codes .entry)) × (now (glyphs .exit) ≡ now (glyphs .entry)) ⌝ }
 {
-    told::tell_fate(cmap::fate_of(source, &codes[..n], &glyphs[..n], kept, map, requested, k))
+    telling::tell_fate(cmap::fate_of(source, &codes[..n], &glyphs[..n], kept, map, requested, k))
 }

@@ -4,7 +4,7 @@ use mathlib.Core.List.{List}
 use mathlib.Core.Bool.{Bool}
 use lib.ListN.{length}
 use Rattle.laws.specs.Choice.{pick}
-use Rattle.told.specs.Sizes.{sizesBroken}
+use Rattle.pair_sizes.specs.Sizes.{sizesBroken}
 use Rattle.listing.specs.Job.{Job, job}
 use Rattle.pairs.specs.declared.Pair.{Pair}
 use Rattle.pairs.specs.Pairs.{codesOf, glyphsOf}

@@ -22,7 +22,7 @@ use Rattle.result.specs.Refusal.{refusalOf, earlyRefusal, lateRefusal}
 use Rattle.result.proofs.RefusalLaws.{early-passed, refusal-early, refusal-late}
 use Rattle.result.proofs.LengthLaws.{length-result}
 use Rattle.result.proofs.CountLaws.{count-few}
-use Rattle.record_writer.specs.Counts.{Counts}
+use Rattle.table_places.specs.Counts.{Counts}
 use Rattle.promised.specs.declared.Answer.{Answer}
 use Rattle.promised.specs.declared.Answer.the-variants.{Written, Refused, NoRoom}
 use Rattle.promised.specs.Cmap.{recordsOf, result, numberIn, answerOf, outputOf}

@@ -20,12 +20,12 @@ pub fn answer_by(s: &[u8], os: [Outcome; 64], room: usize) -> Answer
     ensures { λ r. ⌜ r ≡ answerBy (now (s .entry)) os room ⌝ }
 {
     let m = record_count(s);
-    let late = refusing::late_refusal(s, m, os);
+    let late = late_refusals::late_refusal(s, m, os);
     if 0 < late {
         return Answer::Refused(late);
     }
     let count = layout::count_written(os);
-    let needed = record_writer::result_length(os, count);
+    let needed = table_places::result_length(os, count);
     if room < needed {
         return Answer::NoRoom(needed);
     }

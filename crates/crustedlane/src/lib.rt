@@ -15,14 +15,14 @@ ghost use Rattle.calls.specs.Calls.{subsetOf, recordFateOf, codesAfter, glyphsA
 pub extern "C" fn cmap_old_head(table: &[u8], c: u32) -> HeadAnswer
     ensures { λ r. ⌜ r ≡ toldHead (oldHead (now (table .entry)) c) ⌝ }
 {
-    told::tell_head(heads::old_head(table, c))
+    heads_told::old_head(table, c)
 }
 
 #[no_mangle]
 pub extern "C" fn cmap_new_head(table: &[u8], c: u32) -> HeadAnswer
     ensures { λ r. ⌜ r ≡ toldHead (newHead (now (table .entry)) c) ⌝ }
 {
-    told::tell_head(heads::new_head(table, c))
+    heads_told::new_head(table, c)
 }
 
 // ---- the calls, by hand: whoever holds a slice of records is not covered (tools/entry writes the two proofs)
@@ -44,7 +44,7 @@ pub extern "C" fn cmap_subset(
         × (now (out .exit) ≡ outAfter (now (source .entry)) (now (pairs .entry)) (now (codes .entry)) (now (glyphs .entry)) (now (kept .entry)) (now (map .entry)) (now (requested .entry)) (now (out .entry))) ⌝ }
 {
     let n = pairs.len();
-    if told::sizes_broken(
+    if pair_sizes::sizes_broken(
         source.len(),
         n,
         codes.len(),
@@ -79,7 +79,7 @@ pub extern "C" fn cmap_fate(
         × (now (glyphs .exit) ≡ glyphsAfter (now (source .entry)) (now (pairs .entry)) (now (codes .entry)) (now (glyphs .entry)) (now (kept .entry)) (now (map .entry)) (now (requested .entry))) ⌝ }
 {
     let n = pairs.len();
-    if told::sizes_broken(
+    if pair_sizes::sizes_broken(
         source.len(),
         n,
         codes.len(),

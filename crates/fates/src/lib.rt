@@ -27,7 +27,7 @@ fn written_at(os: [Outcome; 64], k: usize) -> FateKind
     ensures { λ r. ⌜ r ≡ WrittenAt (offsetOf os k) ⌝ }
 {
     let count = layout::count_written(os);
-    FateKind::WrittenAt(record_writer::offset_of(os, k, count))
+    FateKind::WrittenAt(table_places::offset_of(os, k, count))
 }
 
 // What became of record k, of which the plan says o.
@@ -53,7 +53,7 @@ pub fn fate_by(s: &[u8], os: [Outcome; 64], k: usize) -> Fate
     ensures { λ r. ⌜ r ≡ fateBy (now (s .entry)) os k ⌝ }
 {
     let m = concluding::record_count(s);
-    let late = refusing::late_refusal(s, m, os);
+    let late = late_refusals::late_refusal(s, m, os);
     if 0 < late {
         return no_fate(FateKind::Refused(late));
     }

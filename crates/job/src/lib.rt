@@ -95,7 +95,7 @@ pub fn answer(bytes: &[u8], out: &mut [u8; 32768]) -> Reply
         &mut requested,
     );
     let Located::At(places) = located else {
-        return job_output::refuse(12);
+        return replies::damaged_reply();
     };
     replies::reply_of(subset_from(bytes, places, &codes, &glyphs, &kept, &map, &requested, out))
 }

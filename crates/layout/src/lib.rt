@@ -1,65 +1,9 @@
-// What a plan comes to: refusals 8 and 9, how many records are written, and where tables stand.
+// How many records of a plan are written, with whose tables, and how long the tables are together.
 use outcomes::Outcome;
 ghost use mathlib.Core.Path.{_≡_};
-ghost use Prim.Native.Nat.{_+_, _*_, _-_, _<_, _≤_};
-ghost use Rattle.laws.specs.Choice.{either};
-ghost use Rattle.records.specs.Records.{leadsToFormat, Placed, Counted};
+ghost use Prim.Native.Nat.{_*_, _-_, _≤_};
 ghost use Rattle.outcomes.specs.Outcomes.{sizeOf, Small};
-ghost use Rattle.plan.specs.Plan.{refused8, refused9, counts};
 ghost use Rattle.result.specs.Result.{isWritten, makerOf, sizesFrom, written};
-ghost use Rattle.layout.specs.Layout.{Inside};
-
-// Refusal 8.
-pub fn names_missing(os: [Outcome; 64]) -> bool
-    ensures { λ r. ⌜ r ≡ refused8 os ⌝ }
-{
-    let mut k = 0;
-    while k < 64 {
-        if outcome_tests::is_bad(os[k]) {
-            return true;
-        }
-        k += 1;
-    }
-    false
-}
-
-// Whether record k made a format 4 or 12 table.
-fn counts(s: &[u8], os: [Outcome; 64], k: usize) -> bool
-    requires { ⌜ Inside (now s) k ⌝ }
-    ensures { λ r. ⌜ r ≡ counts (now (s .entry)) os k ⌝ }
-{
-    if outcome_tests::is_made(os[k]) {
-        return is_plain(s, k);
-    }
-    false
-}
-
-// Whether record k leads to a format 4 or 12.
-fn is_plain(s: &[u8], k: usize) -> bool
-    requires { ⌜ Placed (now s) k ⌝ }
-    ensures { λ r. ⌜ r ≡ either (leadsToFormat 4 (now (s .entry)) k) (leadsToFormat 12 (now (s .entry)) k) ⌝ }
-{
-    if records::leads_to_format(s, k, 4) {
-        return true;
-    }
-    records::leads_to_format(s, k, 12)
-}
-
-// Refusal 9.
-pub fn lacks_plain(s: &[u8], m: usize, os: [Outcome; 64]) -> bool
-    requires { ⌜ Counted (now s) m ⌝ }
-    requires { ⌜ m ≤ 64 ⌝ }
-    ensures { λ r. ⌜ r ≡ refused9 (now (s .entry)) os ⌝ }
-{
-    let mut k = 0;
-    while k < m {
-        if counts(s, os, k) {
-            return false;
-        }
-        k += 1;
-    }
-    true
-}
 
 pub fn is_written(o: Outcome) -> bool
     ensures { λ r. ⌜ r ≡ isWritten o ⌝ }

@@ -8,7 +8,7 @@ use Rattle.records.specs.Records.{Placed}
 use Rattle.listing.specs.Job.{Job, job}
 use Rattle.outcomes.specs.declared.Outcome.{Outcome}
 use Rattle.result.specs.Result.{isWritten, makerOf, at}
-use Rattle.record_writer.specs.Counts.{Counts}
+use Rattle.table_places.specs.Counts.{Counts}
 
 -- a job of that source: its records' bytes depend on nothing else of it
 abbrev pub sourced : List ℕ → Job

@@ -1,4 +1,4 @@
-// Header and records of a result, where its tables stand, and its length.
+// Header and records of a result.
 use outcomes::Outcome;
 ghost use mathlib.Core.Path.{_≡_};
 ghost use mathlib.Core.List.{_++_};
@@ -6,26 +6,8 @@ ghost use Prim.Native.Nat.{_+_, _*_, _<_, _≤_};
 ghost use lib.ListN.{length};
 ghost use lib.Seq.{sets};
 ghost use Rattle.number.specs.BigEndian.{enc};
-ghost use Rattle.result.specs.Result.{offsetOf, recordBytes, recordsFrom, resultLength};
-ghost use Rattle.record_writer.specs.Counts.{Counts};
+ghost use Rattle.result.specs.Result.{recordBytes, recordsFrom};
 ghost use Rattle.record_writer.specs.Parts.{sourced, Recorded, Laid};
-
-// Where the table of record k stands, in a result of that many records.
-pub fn offset_of(os: [Outcome; 64], k: usize, count: usize) -> usize
-    requires { ⌜ Counts os count ⌝ }
-    requires { ⌜ k < 64 ⌝ }
-    ensures { λ r. ⌜ r ≡ offsetOf os k ⌝ }
-{
-    4 + 8 * count + layout::sizes_from(os, k + 1)
-}
-
-// The length of the whole result.
-pub fn result_length(os: [Outcome; 64], count: usize) -> usize
-    requires { ⌜ Counts os count ⌝ }
-    ensures { λ r. ⌜ r ≡ resultLength os ⌝ }
-{
-    4 + 8 * count + layout::sizes_from(os, 0)
-}
 
 pub fn put_header(out: &mut [u8], count: usize)
     requires { ⌜ 4 ≤ length (now out) ⌝ }
@@ -60,7 +42,7 @@ fn serialize_encoding_record(
 {
     let record = records::encoding_record(s, k);
     let maker = layout::maker_of(os[k], k);
-    let offset = offset_of(os, maker, count);
+    let offset = table_places::offset_of(os, maker, count);
     put_numbers(out, place, record.platform, record.encoding, offset);
 }
 

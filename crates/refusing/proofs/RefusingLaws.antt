@@ -2,10 +2,9 @@
 use Prim.Native.Nat.{ℕ, _≤_}
 use mathlib.Core.Path.{_≡_, refl, sym, _∙_}
 use mathlib.Core.List.{List}
-use mathlib.Core.Bool.{Bool, true, false}
 use native.Mathlib.Omega.{arith}
 use lib.ListN.{length}
-use Rattle.laws.specs.Choice.{pick, ifEq}
+use Rattle.laws.specs.Choice.{ifEq}
 use Rattle.number.specs.BigEndian.{Bytes}
 use Rattle.header.specs.declared.Header.{Header}
 use Rattle.header.specs.declared.Header.the-variants.{Records, Refused}
@@ -20,20 +19,6 @@ use Rattle.made.proofs.LentLaws.{lent}
 use Rattle.result.specs.Refusal.{listRefusals, sourceRefusals, earlyRefusal, rises}
 use Rattle.result.proofs.RefusalLaws.{first-of, early-passed}
 use Rattle.refusing.specs.Refusing.{listRefusal, sourceRefusal, formatRefusal}
-
--- ---- cases one after the other: t is the code's own answer for b
-
-module _ (b t : Bool) (n r : ℕ) where
-  pub case-first : t ≡ b → t ≡ true → n ≡ pick b n r
-  case-first q e = rw (← q, e)
-
-  pub case-then : (m : ℕ) → t ≡ b → t ≡ false → m ≡ r → m ≡ pick b n r
-  case-then m q e h = rw (← q, e) h
-
-pub no-case : _≡_ {A = ℕ} 0 0
-no-case = refl
-
-pub ruleset cases = (case-first, case-then, no-case)
 
 -- ---- the header
 

@@ -1,12 +1,10 @@
-// Refusals 1 to 9 in their order: 1 to 7 of what is lent, 8 and 9 of the plan.
+// Refusals 1 to 7 of what is lent, in their order.
 use header::Header;
-use outcomes::Outcome;
 ghost use mathlib.Core.Path.{_≡_};
-ghost use Prim.Native.Nat.{_≤_};
 ghost use Rattle.laws.specs.Choice.{ifEq};
 ghost use Rattle.records.specs.Records.{Counted};
 ghost use Rattle.listing.specs.Job.{job};
-ghost use Rattle.result.specs.Refusal.{earlyRefusal, lateRefusal};
+ghost use Rattle.result.specs.Refusal.{earlyRefusal};
 ghost use Rattle.refusing.specs.Refusing.{listRefusal, sourceRefusal, formatRefusal};
 
 // Refusals 1 to 4. That the points rise, which 3 asks for, and the bounds of n, which 4 asks for, are known by then.
@@ -91,19 +89,4 @@ pub fn early_refusal(
     let lists = list_refusal(s, codes, glyphs, kept, map, requested);
     let source = source_refusal(s);
     first_of(lists, source)
-}
-
-// Refusals 8 and 9 of a plan; 0 where neither holds.
-pub fn late_refusal(s: &[u8], m: usize, os: [Outcome; 64]) -> u8
-    requires { ⌜ Counted (now s) m ⌝ }
-    requires { ⌜ m ≤ 64 ⌝ }
-    ensures { λ r. ⌜ r ≡ lateRefusal (now (s .entry)) os ⌝ }
-{
-    if layout::names_missing(os) {
-        return 8;
-    }
-    if layout::lacks_plain(s, m, os) {
-        return 9;
-    }
-    0
 }

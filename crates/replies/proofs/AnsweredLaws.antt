@@ -9,7 +9,7 @@ use Rattle.job_input.specs.declared.Located.{Located}
 use Rattle.job_input.specs.declared.Located.the-variants.{At, Damaged}
 use Rattle.job_input.specs.Job.{Parsed, read, damaged, located, jobAt, parse}
 use Rattle.job_output.specs.declared.Reply.{Reply}
-use Rattle.job_output.specs.Output.{written, refusal, Parts}
+use Rattle.job_output.specs.Output.{written, Parts}
 use Rattle.job_output.proofs.OutputLaws.{written-acceptance, written-refusal, parts-acceptance, parts-refusal}
 use Rattle.promised.specs.declared.Answer.{Answer}
 use Rattle.promised.specs.declared.Answer.the-variants.{Written, Refused, NoRoom}
@@ -54,7 +54,7 @@ Answers p buffer reply buffer′ =
     (reply ≡ replyTo p) × ((buffer′ ≡ leftBy p buffer) × ((written reply buffer′ ≡ answered p) × Parts reply buffer′))
 
 module _ (xs buffer : List ℕ) (r : Located) (reply : Reply) (q : r ≡ located xs) where
-  pub answer-damaged : r ≡ Damaged → reply ≡ refusal 12 → Answers (parse xs) buffer reply buffer
+  pub answer-damaged : r ≡ Damaged → reply ≡ replyTo damaged → Answers (parse xs) buffer reply buffer
   unfolding replyTo leftBy answered
   answer-damaged e h = rw (← q, e, h) (refl, (refl, tells-damaged buffer))
 

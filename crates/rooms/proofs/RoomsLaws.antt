@@ -14,7 +14,7 @@ use Rattle.plan.specs.Notes.{Endings}
 use Rattle.plan.proofs.PlanLaws.{prepared-again}
 use Rattle.result.proofs.RefusalLaws.{early-passed}
 use Rattle.refusing.proofs.RefusingLaws.{early-prepared}
-use Rattle.record_writer.specs.Counts.{Counts}
+use Rattle.table_places.specs.Counts.{Counts}
 use Rattle.writing.specs.Writing.{Planned as Written, Noted}
 use Rattle.concluding.specs.Concluding.{Passing, Planned}
 use Rattle.rooms.specs.Rooms.{Few, Enough}

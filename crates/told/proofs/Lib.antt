@@ -1,2 +1,1 @@
-pub mod SizesLaws
 pub mod TellLaws

@@ -8,7 +8,7 @@ use Rattle.outcomes.specs.declared.Outcome.{Outcome}
 use Rattle.fresh.specs.Notes.{Fronted}
 use Rattle.plan.specs.Plan.{plan, Prepared}
 use Rattle.plan.specs.Notes.{Endings}
-use Rattle.record_writer.specs.Counts.{Counts}
+use Rattle.table_places.specs.Counts.{Counts}
 
 -- the outcomes are the plan of a job that may be worked on, and so many of its records are written
 -- (what is asked is what planning asks; writing makes no use of the work room `others`)

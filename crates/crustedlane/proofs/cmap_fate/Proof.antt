@@ -56,17 +56,17 @@ use Rattle.pairs.proofs.Relend.{relend, regain}
 use Rattle.pairs.proofs.Pair as T
 use Rattle.told.specs.declared.FateAnswer.{FateAnswer}
 use Rattle.calls.specs.Calls.{broken}
-use Rattle.told.proofs.SizesLaws.{long}
+use Rattle.pair_sizes.proofs.SizesLaws.{long}
 use Rattle.promised.specs.declared.FateKind.the-variants.{Refused}
 use Rattle.promised.specs.Fates.{fateOf, noFate}
 use Rattle.told.specs.Told.{toldFate}
 use Rattle.calls.specs.Calls.{recordFateOf, codesAfter, glyphsAfter}
 use Rattle.told.proofs.FateAnswer as An
 use Rattle.told.proofs.FateAnswer.Laws as An′
-use Rattle.told.proofs.sizes_broken as sizes
-use Rattle.told.proofs.sizes_broken.Symbol as sizes-def
-use Rattle.told.proofs.sizes_broken.Symbol.{name as #sizes}
-use Rattle.told.proofs.sizes_broken.Met as sizes-thm
+use Rattle.pair_sizes.proofs.sizes_broken as sizes
+use Rattle.pair_sizes.proofs.sizes_broken.Symbol as sizes-def
+use Rattle.pair_sizes.proofs.sizes_broken.Symbol.{name as #sizes}
+use Rattle.pair_sizes.proofs.sizes_broken.Met as sizes-thm
 use Rattle.pairs.proofs.copy_pairs as copy-pairs
 use Rattle.pairs.proofs.copy_pairs.Symbol as copy-def
 use Rattle.pairs.proofs.copy_pairs.Symbol.{name as #copy}

@@ -56,17 +56,17 @@ use Rattle.pairs.proofs.Relend.{relend, regain}
 use Rattle.pairs.proofs.Pair as T
 use Rattle.told.specs.declared.SubsetAnswer.{SubsetAnswer}
 use Rattle.calls.specs.Calls.{broken}
-use Rattle.told.proofs.SizesLaws.{long}
+use Rattle.pair_sizes.proofs.SizesLaws.{long}
 use Rattle.promised.specs.declared.Answer.the-variants.{Refused}
 use Rattle.promised.specs.Cmap.{answerOf, outputOf}
 use Rattle.told.specs.Told.{told}
 use Rattle.calls.specs.Calls.{subsetOf, codesAfter, glyphsAfter, outAfter}
 use Rattle.told.proofs.SubsetAnswer as An
 use Rattle.told.proofs.SubsetAnswer.Laws as An′
-use Rattle.told.proofs.sizes_broken as sizes
-use Rattle.told.proofs.sizes_broken.Symbol as sizes-def
-use Rattle.told.proofs.sizes_broken.Symbol.{name as #sizes}
-use Rattle.told.proofs.sizes_broken.Met as sizes-thm
+use Rattle.pair_sizes.proofs.sizes_broken as sizes
+use Rattle.pair_sizes.proofs.sizes_broken.Symbol as sizes-def
+use Rattle.pair_sizes.proofs.sizes_broken.Symbol.{name as #sizes}
+use Rattle.pair_sizes.proofs.sizes_broken.Met as sizes-thm
 use Rattle.pairs.proofs.copy_pairs as copy-pairs
 use Rattle.pairs.proofs.copy_pairs.Symbol as copy-def
 use Rattle.pairs.proofs.copy_pairs.Symbol.{name as #copy}

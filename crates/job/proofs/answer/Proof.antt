@@ -16,11 +16,11 @@ enum-known-located c = search needs
 enum-told : tie.Need-enum-told
 enum-told c = search needs
 
-refuse-requires : tie.Need-refuse-requires
-refuse-requires c κs = search needs
+damaged-reply-requires : tie.Need-damaged-reply-requires
+damaged-reply-requires c κs = search needs
 
 returns : tie.Need-returns
-returns c = answer-damaged _ _ _ _ (c .before .before .before .take-apart .ensures .0) (c .before .enum-told .given .1) (c .refuse .ensures)
+returns c = answer-damaged _ _ _ _ (c .before .before .before .take-apart .ensures .0) (c .before .enum-told .given .1) (c .damaged-reply .ensures)
 
 subset-from-requires : tie.Need-subset-from-requires
 subset-from-requires c κs =
@@ -40,7 +40,7 @@ answer-spec =
     take-apart-requires
     enum-known-located
     enum-told
-    refuse-requires
+    damaged-reply-requires
     returns
     subset-from-requires
     reply-of-requires
