@@ -13,7 +13,7 @@ use Rattle.laws.specs.Lists.{Rising}
 use Rattle.laws.proofs.ChoiceLaws.{by-test, by-leb}
 use Rattle.marks.specs.Marks.{between, flagOf, Bound, Flags, Inside}
 use Rattle.marks.proofs.BelowLaws.{below-past, below-upto, inside}
-use Rattle.marks.proofs.MarksLaws.{clear-at}
+use Rattle.laws.proofs.ReadLaws.{getD-row}
 use Rattle.mapped4.specs.declared.Segment.{Segment}
 use Rattle.mapped4.specs.Mapped4.{Read4}
 use Rattle.downward4.specs.Downward.{word, decided, Held, Decided, Noted, DecidedBy}
@@ -109,7 +109,7 @@ held-at v ps fs₀ fs start end low high j l d h = l .each j (d .order) h
 -- ---- blocks
 
 pub noted-none : (n : ℕ) (fs : List ℕ) → Noted (replicate n 0) fs
-noted-none n fs = record { shut = λ b k s a h z. s (clear-at n b) }
+noted-none n fs = record { shut = λ b k s a h z. s (getD-row 0 n b) }
 
 module _ (v : ℕ → Bool) (noted ps fs : List ℕ) (low high : ℕ) (n : Noted noted fs) where
   pub noted-kept : (fs′ : List ℕ) → Decided v ps fs fs′ low high → Noted noted fs′

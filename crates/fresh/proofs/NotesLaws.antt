@@ -16,7 +16,7 @@ use Rattle.header.specs.Header.{offsetOf}
 use Rattle.source.specs.Kind.{formatOf}
 use Rattle.records.specs.Records.{leadsTo}
 use Rattle.listing.specs.Job.{Job, job}
-use Rattle.marks.proofs.MarksLaws.{clear-at}
+use Rattle.laws.proofs.ReadLaws.{getD-row}
 use Rattle.making.specs.Making.{Fronts}
 use Rattle.selector_tables.specs.Selectors.{given}
 use Rattle.selector_tables.specs.ByNumber.{slot}
@@ -31,7 +31,7 @@ module _ (xs : List ℕ) (n : ℕ) (cs gs : List ℕ) where
   unknown k = record { within = omega arith; is = λ h. absurd (omega arith) }
 
   pub fronted-none : Fronted xs n cs gs (replicate 64 0)
-  fronted-none = record { rows = omega (arith, length-replicate {A = ℕ} 64 0); each = λ k. rw (clear-at 64 k) (unknown k) }
+  fronted-none = record { rows = omega (arith, length-replicate {A = ℕ} 64 0); each = λ k. rw (getD-row 0 64 k) (unknown k) }
 
   pub fronted-on : (fs : List ℕ) (k front : ℕ) → Fronted xs n cs gs fs → Fronts xs n cs gs k front → k < 64 → Fronted xs n cs gs (set fs k front)
   fronted-on fs k front f q h = record {

@@ -11,7 +11,8 @@ use lib.Seq.{sets, set-getD, getD-set-same, getD-set-other}
 use borrow.Author.Tests.{eqb-true, eqb-false}
 use Rattle.laws.proofs.ChoiceLaws.{by-test, by-leb}
 use Rattle.laws.proofs.SetsLaws.{getD-sets-in}
-use Rattle.marks.proofs.MarksLaws.{clear-at, Filling, filling-part}
+use Rattle.laws.proofs.ReadLaws.{getD-row}
+use Rattle.marks.proofs.MarksLaws.{Filling, filling-part}
 use Rattle.full_flags.specs.Blocks.{Ones, Full, Part}
 
 -- ---- flags that are set
@@ -64,7 +65,7 @@ filling-block l fs′ j p = filling-part l fs′ j (omega (arith, p .past)) (p .
 -- ---- what is full
 
 pub full-none : (k : ℕ) (fs : List ℕ) → Full (replicate k 0) fs
-full-none k fs = record { ones = λ b. record { each = λ i a h. absurd (omega (arith, clear-at k b)) } }
+full-none k fs = record { ones = λ b. record { each = λ i a h. absurd (omega (arith, getD-row 0 k b)) } }
 
 module _ (full fs : List ℕ) (f : Full full fs) where
   pub full-here : (i : ℕ) → Ones fs i (getD full (i / 256) 0 * 256)

@@ -120,3 +120,17 @@ module _ (a b t : Bool) where
   both-then r q e h = rw (← q, e) h
 
 pub ruleset all-of = (both-first, both-then)
+
+-- ---- cases one after the other: t is the code's own answer for b
+
+module _ (b t : Bool) (n r : ℕ) where
+  pub case-first : t ≡ b → t ≡ true → n ≡ pick b n r
+  case-first q e = rw (← q, e)
+
+  pub case-then : (m : ℕ) → t ≡ b → t ≡ false → m ≡ r → m ≡ pick b n r
+  case-then m q e h = rw (← q, e) h
+
+pub no-case : _≡_ {A = ℕ} 0 0
+no-case = refl
+
+pub ruleset cases = (case-first, case-then, no-case)

@@ -168,11 +168,6 @@ saying-on {q} {ps} {fs₀} {fs} h v p {fs′} s k e w =
 
 -- ---- cleared flags
 
-pub clear-at : (n i : ℕ) → getD (replicate {A = ℕ} n 0) i 0 ≡ 0
-clear-at zero i = refl
-clear-at (suc n) zero = refl
-clear-at (suc n) (suc i) = clear-at n i
-
 pub cleared : (n : ℕ) (fs₀ fs : List ℕ) → fs ≡ sets fs₀ 0 (replicate n 0) → Cleared n fs
 cleared n fs₀ fs e = record { is = rw e (sym (sets-over fs₀ 0 (replicate n 0) (replicate n 0) refl)) }
 

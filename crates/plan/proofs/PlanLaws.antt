@@ -5,6 +5,7 @@ use mathlib.Core.List.{List, [], _∷_}
 use native.Mathlib.Numerals.{add-one}
 use native.Mathlib.Omega.{arith}
 use lib.ListN.{length, getD, set, replicate, length-set}
+use Rattle.laws.proofs.ReadLaws.{getD-row}
 use Rattle.header.specs.Header.{recordCount}
 use Rattle.records.proofs.RecordsLaws.{placed}
 use Rattle.covering.specs.Covered.{Rooms}
@@ -70,11 +71,6 @@ module _ (j : Job) (m : ℕ) (fs os tocs togs : List ℕ) (p : Prepared j m fs o
 
 -- ---- the row
 
-short-none : (n k : ℕ) → Short (getD (replicate n NotRetained) k NotRetained)
-short-none zero k = record { below = omega arith }
-short-none (suc n) zero = record { below = omega arith }
-short-none (suc n) (suc k) = short-none n k
-
 short-set : (os : List Outcome) (k i : ℕ) (o : Outcome) → Short o → Short (getD os i NotRetained) → Short (getD (set os k o) i NotRetained)
 short-set [] k i o s b = b
 short-set (x ∷ os) zero zero o s b = s
@@ -100,7 +96,7 @@ planning-start j m fs ot tocs togs ns es p f t = record {
   prepared = p;
   within = omega arith;
   row = refl;
-  small = record { all = refl; each = short-none 64 };
+  small = record { all = refl; each = λ k. rw (getD-row NotRetained 64 k) (record { below = omega arith }) };
   fronted = f;
   tables = t;
   endings = endings-start j (replicate 64 NotRetained) es;

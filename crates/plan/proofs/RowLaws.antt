@@ -1,16 +1,17 @@
 -- The row of outcomes: what is worked out stays, and by which way it came.
 use Prim.Native.Nat.{ℕ, zero, suc, _<_, _≤_}
-use mathlib.Core.Path.{_≡_, refl, _∙_}
+use mathlib.Core.Path.{_≡_, _∙_}
 use mathlib.Core.List.{List}
 use mathlib.Core.Bool.{Bool, true, false}
 use native.Mathlib.Omega.{arith}
 use lib.Dec.{ltb}
-use lib.ListN.{length, getD, replicate, length-set, length-replicate}
+use lib.ListN.{length, getD, length-set, length-replicate}
 use lib.Seq.{getD-set-same, getD-set-other}
 use borrow.Author.Tests.{ltb-true, ltb-false}
 use Rattle.laws.specs.Choice.{pick}
 use Rattle.laws.specs.Search.{first}
 use Rattle.laws.proofs.ChoiceLaws.{by-pick, by-leb}
+use Rattle.laws.proofs.ReadLaws.{getD-row}
 use Rattle.number.specs.Limits.{recordsMax}
 use Rattle.records.specs.Records.{retained}
 use Rattle.listing.specs.Job.{Job, glyphCount}
@@ -23,11 +24,6 @@ use Rattle.plan.specs.Plan.{retainedOutcome, outcomeOf, outcomes}
 
 -- ---- the row of outcomes
 
-none-there : (n k : ℕ) → getD (replicate n NotRetained) k NotRetained ≡ NotRetained
-none-there zero k = refl
-none-there (suc n) zero = refl
-none-there (suc n) (suc k) = none-there n k
-
 module _ (j : Job) where
   length-outcomes : (m : ℕ) → length (outcomes j m) ≡ recordsMax
   unfolding outcomes
@@ -37,7 +33,7 @@ module _ (j : Job) where
   -- records from m on are not worked out yet
   pub outcome-past : (m k : ℕ) → m ≤ k → getD (outcomes j m) k NotRetained ≡ NotRetained
   unfolding outcomes
-  outcome-past zero k h = none-there recordsMax k
+  outcome-past zero k h = getD-row NotRetained recordsMax k
   outcome-past (suc m) k h = getD-set-other (outcomes j m) m k (outcomeOf j (outcomes j m) m) NotRetained (λ e. omega arith) ∙ outcome-past m k (omega arith)
 
   -- those before it keep what was worked out

@@ -246,17 +246,3 @@ passed j e =
       mappings = one-passed 7 b₈ c₉ e₈;
       some = one-passed 8 b₉ [] (rest-passed 7 b₈ c₉ e₈);
     }
-
--- ---- cases one after the other: t is the code's own answer for b
-
-module _ (b t : Bool) (n r : ℕ) where
-  pub case-first : t ≡ b → t ≡ true → n ≡ pick b n r
-  case-first q e = rw (← q, e)
-
-  pub case-then : (m : ℕ) → t ≡ b → t ≡ false → m ≡ r → m ≡ pick b n r
-  case-then m q e h = rw (← q, e) h
-
-pub no-case : _≡_ {A = ℕ} 0 0
-no-case = refl
-
-pub ruleset cases = (case-first, case-then, no-case)

@@ -1,5 +1,5 @@
 use Rattle.result.specs.Refusal.{lateRefusal}
-use Rattle.result.proofs.RefusalLaws.{cases}
+use Rattle.laws.proofs.ChoiceLaws.{cases}
 use borrow.Author.Needs.{needs}
 use Rattle.late_refusals.proofs.late_refusal.Statement.{statement}
 use Rattle.late_refusals.proofs.late_refusal.Tie as tie

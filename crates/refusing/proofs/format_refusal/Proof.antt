@@ -1,5 +1,5 @@
 use Rattle.refusing.specs.Refusing.{formatRefusal}
-use Rattle.result.proofs.RefusalLaws.{cases}
+use Rattle.laws.proofs.ChoiceLaws.{cases}
 use borrow.Author.Needs.{needs}
 use Rattle.refusing.proofs.format_refusal.Statement.{statement}
 use Rattle.refusing.proofs.format_refusal.Tie as tie

@@ -1,5 +1,5 @@
 use Rattle.refusing.specs.Refusing.{listRefusal}
-use Rattle.result.proofs.RefusalLaws.{cases}
+use Rattle.laws.proofs.ChoiceLaws.{cases}
 use borrow.Author.Needs.{needs}
 use Rattle.refusing.proofs.list_refusal.Statement.{statement}
 use Rattle.refusing.proofs.list_refusal.Tie as tie
