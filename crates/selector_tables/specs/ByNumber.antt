@@ -7,6 +7,7 @@ use lib.Dec.{eqb}
 use lib.ListN.{length, getD}
 use Rattle.laws.specs.Choice.{pick, both}
 use Rattle.laws.specs.Lists.{Rising}
+use Rattle.source.specs.Fields.{varSelector}
 use Rattle.marks.specs.Marks.{holds}
 use Rattle.number.specs.BigEndian.{be}
 use Rattle.uvs.specs.Checksum.{checksum}
@@ -29,7 +30,7 @@ tableOffset xs at t = be 4 xs (at + 10 + 11 * (t / 2) + 3 + 4 * (t % 2))
 -- that offset, or 0 where the selector is not kept or the table, with its records of 4 or 5 bytes, does not count
 unfoldable pub sourceTable : List ℕ → ℕ → ℕ → List ℕ → ℕ → ℕ
 sourceTable xs at len kept t =
-    pick (both (holds kept (be 3 xs (at + 10 + 11 * (t / 2)))) (counts (4 + t % 2) xs at len (tableOffset xs at t))) (tableOffset xs at t) 0
+    pick (both (holds kept (varSelector xs at (t / 2))) (counts (4 + t % 2) xs at len (tableOffset xs at t))) (tableOffset xs at t) 0
 
 -- what a search for it gives: the offset, and its bound
 pub record Source (xs : List ℕ) (at len : ℕ) (kept : List ℕ) (t r : ℕ) : Type 0 where

@@ -7,7 +7,8 @@ use lib.Dec.{eqb, ltb}
 use lib.ListN.{length, getD}
 use Rattle.laws.specs.Choice.{pick, either}
 use Rattle.laws.specs.Select.{each, select}
-use Rattle.number.specs.BigEndian.{be, enc}
+use Rattle.source.specs.Fields.{varSelector}
+use Rattle.number.specs.BigEndian.{enc}
 
 -- record k has a table
 unfoldable pub usedAt : List ℕ → ℕ → Bool
@@ -27,7 +28,7 @@ recordBytes selector first second = enc 3 selector ++ (enc 4 first ++ enc 4 seco
 
 -- record k of the source's subtable at `at`, with its new offsets
 unfoldable pub recordAt : List ℕ → ℕ → ℕ → List ℕ → ℕ → List ℕ
-recordAt xs at total ends k = recordBytes (be 3 xs (at + 10 + 11 * k)) (offsetFor total (getD ends (2 * k) 0)) (offsetFor total (getD ends (2 * k + 1) 0))
+recordAt xs at total ends k = recordBytes (varSelector xs at k) (offsetFor total (getD ends (2 * k) 0)) (offsetFor total (getD ends (2 * k + 1) 0))
 
 -- format 14, the subtable's length and its number of selector records
 unfoldable pub header14 : ℕ → ℕ → List ℕ

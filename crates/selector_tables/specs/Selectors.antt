@@ -1,11 +1,12 @@
 -- The selector records of the source's format 14 subtable, which of them are kept, and their new tables (docs/01-rules.md, "Format 14").
-use Prim.Native.Nat.{ℕ, _+_, _*_}
+use Prim.Native.Nat.{ℕ, _+_}
 use mathlib.Core.List.{List, [], _∷_}
 use mathlib.Core.Bool.{Bool, true, false}
 use Rattle.laws.specs.Choice.{pick, both}
 use Rattle.laws.specs.Select.{each, select, anyOf}
 use Rattle.marks.specs.Marks.{holds}
 use Rattle.number.specs.BigEndian.{be}
+use Rattle.source.specs.Fields.{varSelector as varSelectorAt, defaultUVSOffset, nonDefaultUVSOffset}
 use Rattle.uvs.specs.Tables.{countsDefault, countsNonDefault}
 use Rattle.uvs.specs.Default.{newDefault}
 use Rattle.uvs.specs.NonDefault.{newNonDefault, badMapping}
@@ -22,19 +23,19 @@ pub record Given : Type 0 where
 abbrev pub given : List ℕ → ℕ → ℕ → List ℕ → List ℕ → List ℕ → Given
 given xs at len kept map requested = record { source = xs; start = at; size = len; kept = kept; glyphs = map; requested = requested }
 
--- ---- selector record k of the source: eleven bytes each, from the tenth on
+-- ---- selector record k of the source
 
 abbrev pub selectorRecords : Given → ℕ
 selectorRecords g = be 4 (g .source) (g .start + 6)
 
 abbrev pub varSelector : Given → ℕ → ℕ
-varSelector g k = be 3 (g .source) (g .start + 10 + 11 * k)
+varSelector g k = varSelectorAt (g .source) (g .start) k
 
 abbrev pub defaultOffset : Given → ℕ → ℕ
-defaultOffset g k = be 4 (g .source) (g .start + 10 + 11 * k + 3)
+defaultOffset g k = defaultUVSOffset (g .source) (g .start) k
 
 abbrev pub nonDefaultOffset : Given → ℕ → ℕ
-nonDefaultOffset g k = be 4 (g .source) (g .start + 10 + 11 * k + 7)
+nonDefaultOffset g k = nonDefaultUVSOffset (g .source) (g .start) k
 
 unfoldable pub keepsSelector : Given → ℕ → Bool
 keepsSelector g k = holds (g .kept) (varSelector g k)

@@ -1,4 +1,4 @@
--- Where the parts of a subtable stand that follow its header, by OpenType's names: s segments, or groups, of a subtable at `at`.
+-- Where the parts of a subtable stand that follow its header, by OpenType's names: s segments, groups, or selector records, of a subtable at `at`.
 use Prim.Native.Nat.{ℕ, _+_, _*_, _-_, _/_}
 use mathlib.Core.List.{List}
 use Rattle.number.specs.BigEndian.{be}
@@ -34,3 +34,14 @@ endCharCode xs at i = be 4 xs (at + 20 + 12 * i)
 
 abbrev pub startGlyphID : List ℕ → ℕ → ℕ → ℕ
 startGlyphID xs at i = be 4 xs (at + 24 + 12 * i)
+
+-- ---- format 14: selector records of a selector and the offsets of its two tables
+
+abbrev pub varSelector : List ℕ → ℕ → ℕ → ℕ
+varSelector xs at k = be 3 xs (at + 10 + 11 * k)
+
+abbrev pub defaultUVSOffset : List ℕ → ℕ → ℕ → ℕ
+defaultUVSOffset xs at k = be 4 xs (at + 10 + 11 * k + 3)
+
+abbrev pub nonDefaultUVSOffset : List ℕ → ℕ → ℕ → ℕ
+nonDefaultUVSOffset xs at k = be 4 xs (at + 10 + 11 * k + 7)
