@@ -1,12 +1,12 @@
 use Rattle.order.proofs.OrderLaws.{no-numbers}
 use Rattle.order.specs.Order.{falls, notBelowNext}
 use Rattle.laws.proofs.SearchLaws.{Asking, asking}
 use Prim.Native.Nat.{_-_}
 use lib.ListN.{length}
 use native.Mathlib.Omega.{arith}
 use borrow.Author.Needs.{needs}
-use Rattle.order.proofs.falls.Statement.{statement}
-use Rattle.order.proofs.falls.Tie as tie
+use Rattle.point_order.proofs.falls.Statement.{statement}
+use Rattle.point_order.proofs.falls.Tie as tie
 
 abbrev Inv-loop : tie.InvT-loop
 Inv-loop xs last i₀ i = Asking (notBelowNext xs) (length xs - 1) i

@@ -1,8 +1,8 @@
 -- The last number of a rising list tells of all.
 use Rattle.order.proofs.OrderLaws.{by-last}
 use borrow.Author.Needs.{needs}
-use Rattle.order.proofs.last_above.Statement.{statement}
-use Rattle.order.proofs.last_above.Tie as tie
+use Rattle.point_order.proofs.last_above.Statement.{statement}
+use Rattle.point_order.proofs.last_above.Tie as tie
 
 sub-above : tie.Need-sub-above
 sub-above c = search needs

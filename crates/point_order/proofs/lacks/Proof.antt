@@ -4,9 +4,9 @@ use native.Mathlib.Omega.{arith}
 use Prim.Native.Nat.{_-_}
 use lib.ListN.{length}
 use Rattle.laws.proofs.SearchLaws.{Asking, asking, asking-on}
-use Rattle.order.proofs.OrderLaws.{isMissing, lacks-told}
-use Rattle.order.proofs.lacks.Statement.{statement}
-use Rattle.order.proofs.lacks.Tie as tie
+use Rattle.point_order.proofs.PointOrderLaws.{isMissing, lacks-told}
+use Rattle.point_order.proofs.lacks.Statement.{statement}
+use Rattle.point_order.proofs.lacks.Tie as tie
 
 abbrev Inv-loop : tie.InvT-loop
 Inv-loop kept codes near₀ i₀ near i = Asking (isMissing kept codes) (length codes) i

@@ -1,11 +1,12 @@
-use Rattle.order.proofs.OrderLaws.{isAbove, exceeds-told}
+use Rattle.order.proofs.OrderLaws.{isAbove}
+use Rattle.point_order.proofs.PointOrderLaws.{exceeds-told}
 use Rattle.laws.proofs.SearchLaws.{Asking, asking}
 use Prim.Native.Nat.{_-_}
 use lib.ListN.{length}
 use native.Mathlib.Omega.{arith}
 use borrow.Author.Needs.{needs}
-use Rattle.order.proofs.exceeds16.Statement.{statement}
-use Rattle.order.proofs.exceeds16.Tie as tie
+use Rattle.point_order.proofs.exceeds16.Statement.{statement}
+use Rattle.point_order.proofs.exceeds16.Tie as tie
 
 abbrev Inv-loop : tie.InvT-loop
 Inv-loop m xs i₀ i = Asking (isAbove m xs) (length xs) i

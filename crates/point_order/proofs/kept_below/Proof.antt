@@ -1,8 +1,8 @@
 -- Where c stands, the points before it are those below it.
-use Rattle.order.proofs.OrderLaws.{kept-here}
+use Rattle.point_order.proofs.PointOrderLaws.{kept-here}
 use borrow.Author.Needs.{needs}
-use Rattle.order.proofs.kept_below.Statement.{statement}
-use Rattle.order.proofs.kept_below.Tie as tie
+use Rattle.point_order.proofs.kept_below.Statement.{statement}
+use Rattle.point_order.proofs.kept_below.Tie as tie
 
 mul-if2 : tie.Need-mul-if2
 mul-if2 c = search needs

@@ -1,7 +1,7 @@
-use Rattle.order.proofs.OrderLaws.{missing}
+use Rattle.point_order.proofs.PointOrderLaws.{missing}
 use borrow.Author.Needs.{needs}
-use Rattle.order.proofs.is_missing.Statement.{statement}
-use Rattle.order.proofs.is_missing.Tie as tie
+use Rattle.point_order.proofs.is_missing.Statement.{statement}
+use Rattle.point_order.proofs.is_missing.Tie as tie
 
 mul-result : tie.Need-mul-result
 mul-result c = search needs
