@@ -2,11 +2,11 @@
 use mathlib.Core.Path.{refl, ap}
 use native.Mathlib.Omega.{arith}
 use Rattle.laws.proofs.ChoiceLaws.{if-lt, else-lt, if-eq, else-eq}
 use Rattle.lookup.specs.declared.Found.the-variants.{Glyph}
 use Rattle.lookup.specs.Lookup.{inArray}
 use borrow.Author.Needs.{needs}
-use Rattle.lookup.proofs.in_array.Statement.{statement}
-use Rattle.lookup.proofs.in_array.Tie as tie
+use Rattle.segment_lookup.proofs.in_array.Statement.{statement}
+use Rattle.segment_lookup.proofs.in_array.Tie as tie
 
 returns : tie.Need-returns
 unfolding inArray
