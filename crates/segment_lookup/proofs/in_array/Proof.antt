@@ -4,7 +4,6 @@ use native.Mathlib.Omega.{arith}
 use Rattle.laws.proofs.ChoiceLaws.{if-lt, else-lt, if-eq, else-eq}
 use Rattle.lookup.specs.declared.Found.the-variants.{Glyph}
 use Rattle.lookup.specs.Lookup.{inArray}
-use borrow.Author.Needs.{needs}
 use Rattle.segment_lookup.proofs.in_array.Statement.{statement}
 use Rattle.segment_lookup.proofs.in_array.Tie as tie
 
@@ -13,38 +12,38 @@ unfolding inArray
 returns c = if-lt _ _ _ _ (omega arith) refl
 
 mul-if2 : tie.Need-mul-if2
-mul-if2 c = search needs
+mul-if2 c = omega arith
 
 add-if2 : tie.Need-add-if2
-add-if2 c = search needs
+add-if2 c = omega arith
 
 sub-if2 : tie.Need-sub-if2
-sub-if2 c = search needs
+sub-if2 c = omega arith
 
 add-u16-at : tie.Need-add-u16-at
-add-u16-at c = search needs
+add-u16-at c = omega arith
 
 mul-u16-at : tie.Need-mul-u16-at
-mul-u16-at c = search needs
+mul-u16-at c = omega arith
 
 add-u16-at-2 : tie.Need-add-u16-at-2
-add-u16-at-2 c = search needs
+add-u16-at-2 c = omega arith
 
 mul-u16-at-2 : tie.Need-mul-u16-at-2
-mul-u16-at-2 c = search needs
+mul-u16-at-2 c = omega arith
 
 add-u16-at-3 : tie.Need-add-u16-at-3
-add-u16-at-3 c = search needs
+add-u16-at-3 c = omega arith
 
 u16-at-requires : tie.Need-u16-at-requires
-u16-at-requires c κs = search needs
+u16-at-requires c κs = omega arith
 
 returns-2 : tie.Need-returns-2
 unfolding inArray
 returns-2 c = else-lt _ _ _ _ (omega arith) (if-lt _ _ _ _ (omega arith) (if-eq _ _ _ _ (omega arith) refl))
 
 add-t21 : tie.Need-add-t21
-add-t21 c = search needs
+add-t21 c = omega arith
 
 returns-3 : tie.Need-returns-3
 unfolding inArray
