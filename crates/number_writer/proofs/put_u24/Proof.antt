@@ -1,7 +1,7 @@
 use borrow.Author.Needs.{needs}
 use Rattle.number.proofs.BigEndianLaws.{put-step}
-use Rattle.number.proofs.put_u24.Statement.{statement}
-use Rattle.number.proofs.put_u24.Tie as tie
+use Rattle.number_writer.proofs.put_u24.Statement.{statement}
+use Rattle.number_writer.proofs.put_u24.Tie as tie
 
 put-u16-requires : tie.Need-put-u16-requires
 put-u16-requires c κs = search needs

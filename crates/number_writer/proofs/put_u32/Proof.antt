@@ -1,7 +1,7 @@
 use borrow.Author.Needs.{needs}
 use Rattle.number.proofs.BigEndianLaws.{put-step}
-use Rattle.number.proofs.put_u32.Statement.{statement}
-use Rattle.number.proofs.put_u32.Tie as tie
+use Rattle.number_writer.proofs.put_u32.Statement.{statement}
+use Rattle.number_writer.proofs.put_u32.Tie as tie
 
 put-u24-requires : tie.Need-put-u24-requires
 put-u24-requires c κs = search needs

@@ -1,8 +1,8 @@
 use Rattle.number.specs.BigEndian.{enc}
 use mathlib.Core.Path.{refl}
 use borrow.Author.Needs.{needs}
-use Rattle.number.proofs.u24_bytes.Statement.{statement}
-use Rattle.number.proofs.u24_bytes.Tie as tie
+use Rattle.number_writer.proofs.u24_bytes.Statement.{statement}
+use Rattle.number_writer.proofs.u24_bytes.Tie as tie
 
 cast-t5 : tie.Need-cast-t5
 cast-t5 c = search needs

@@ -2,9 +2,9 @@ use borrow.Author.Needs.{needs}
 use native.Mathlib.Omega.{arith}
 use native.Mathlib.Numerals.{add-one}
 use lib.ListN.{length-set}
 use Rattle.number.specs.BigEndian.{put, enc}
-use Rattle.number.proofs.put_u16.Statement.{statement}
-use Rattle.number.proofs.put_u16.Tie as tie
+use Rattle.number_writer.proofs.put_u16.Statement.{statement}
+use Rattle.number_writer.proofs.put_u16.Tie as tie
 
 cast-out : tie.Need-cast-out
 cast-out c = search needs
