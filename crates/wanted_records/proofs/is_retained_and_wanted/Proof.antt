@@ -1,7 +1,7 @@
 use Rattle.laws.proofs.ChoiceLaws.{all-of}
 use borrow.Author.Needs.{needs}
-use Rattle.records.proofs.is_retained_and_wanted.Statement.{statement}
-use Rattle.records.proofs.is_retained_and_wanted.Tie as tie
+use Rattle.wanted_records.proofs.is_retained_and_wanted.Statement.{statement}
+use Rattle.wanted_records.proofs.is_retained_and_wanted.Tie as tie
 
 retain-encoding-record-for-subset-requires : tie.Need-retain-encoding-record-for-subset-requires
 retain-encoding-record-for-subset-requires c κs = search needs

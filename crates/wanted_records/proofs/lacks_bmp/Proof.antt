@@ -1,7 +1,7 @@
-use Rattle.records.proofs.RecordsLaws.{unless}
+use Rattle.wanted_records.proofs.WantedLaws.{unless}
 use borrow.Author.Needs.{needs}
-use Rattle.records.proofs.lacks_bmp.Statement.{statement}
-use Rattle.records.proofs.lacks_bmp.Tie as tie
+use Rattle.wanted_records.proofs.lacks_bmp.Statement.{statement}
+use Rattle.wanted_records.proofs.lacks_bmp.Tie as tie
 
 some-retained-requires : tie.Need-some-retained-requires
 some-retained-requires c κs = search needs

@@ -1,7 +1,7 @@
-use Rattle.records.proofs.RecordsLaws.{by-wanted}
+use Rattle.wanted_records.proofs.WantedLaws.{by-wanted}
 use borrow.Author.Needs.{needs}
-use Rattle.records.proofs.is_wanted.Statement.{statement}
-use Rattle.records.proofs.is_wanted.Tie as tie
+use Rattle.wanted_records.proofs.is_wanted.Statement.{statement}
+use Rattle.wanted_records.proofs.is_wanted.Tie as tie
 
 enum-told : tie.Need-enum-told
 enum-told c = search needs

@@ -1,8 +1,8 @@
-use Rattle.records.proofs.RecordsLaws.{not-told}
+use Rattle.wanted_records.proofs.WantedLaws.{not-told}
 use Rattle.laws.proofs.ChoiceLaws.{all-of}
 use borrow.Author.Needs.{needs}
-use Rattle.records.proofs.lacks_full.Statement.{statement}
-use Rattle.records.proofs.lacks_full.Tie as tie
+use Rattle.wanted_records.proofs.lacks_full.Statement.{statement}
+use Rattle.wanted_records.proofs.lacks_full.Tie as tie
 
 some-retained-requires : tie.Need-some-retained-requires
 some-retained-requires c κs = search needs

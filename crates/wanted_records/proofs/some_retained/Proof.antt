@@ -1,9 +1,9 @@
 use native.Mathlib.Omega.{arith}
 use Prim.Native.Nat.{_-_}
 use borrow.Author.Needs.{needs}
-use Rattle.records.proofs.RecordsLaws.{Walked, walked}
-use Rattle.records.proofs.some_retained.Statement.{statement}
-use Rattle.records.proofs.some_retained.Tie as tie
+use Rattle.wanted_records.proofs.WantedLaws.{Walked, walked}
+use Rattle.wanted_records.proofs.some_retained.Statement.{statement}
+use Rattle.wanted_records.proofs.some_retained.Tie as tie
 
 abbrev Inv-loop : tie.InvT-loop
 Inv-loop wanted s n k₀ k = Walked wanted s n k

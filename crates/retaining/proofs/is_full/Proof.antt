@@ -1,8 +1,8 @@
 use Rattle.records.specs.Records.{fullPair}
 use Rattle.laws.proofs.ChoiceLaws.{one-of}
 use borrow.Author.Needs.{needs}
-use Rattle.records.proofs.is_full.Statement.{statement}
-use Rattle.records.proofs.is_full.Tie as tie
+use Rattle.retaining.proofs.is_full.Statement.{statement}
+use Rattle.retaining.proofs.is_full.Tie as tie
 
 is-pair-requires : tie.Need-is-pair-requires
 is-pair-requires c κs = search needs

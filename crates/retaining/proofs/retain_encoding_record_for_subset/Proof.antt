@@ -1,8 +1,8 @@
 use Rattle.records.specs.Records.{retained}
 use Rattle.laws.proofs.ChoiceLaws.{one-of}
 use borrow.Author.Needs.{needs}
-use Rattle.records.proofs.retain_encoding_record_for_subset.Statement.{statement}
-use Rattle.records.proofs.retain_encoding_record_for_subset.Tie as tie
+use Rattle.retaining.proofs.retain_encoding_record_for_subset.Statement.{statement}
+use Rattle.retaining.proofs.retain_encoding_record_for_subset.Tie as tie
 
 is-bmp-requires : tie.Need-is-bmp-requires
 is-bmp-requires c κs = search needs
