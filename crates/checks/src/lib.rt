@@ -39,25 +39,25 @@ pub fn bad_sizes(
 pub fn bad_pairs(codes: &[u32], glyphs: &[u16]) -> bool
     ensures { λ r. ⌜ r ≡ badPairs (now (codes .entry)) (now (glyphs .entry)) ⌝ }
 {
-    if order::falls(codes) {
+    if point_order::falls(codes) {
         return true;
     }
-    if order::last_above(CodePoint::UNICODE_MAX, codes) {
+    if point_order::last_above(CodePoint::UNICODE_MAX, codes) {
         return true;
     }
-    order::exceeds16(NewGlyph::MAX, glyphs)
+    point_order::exceeds16(NewGlyph::MAX, glyphs)
 }
 
 pub fn bad_kept(kept: &[u32], codes: &[u32]) -> bool
     ensures { λ r. ⌜ r ≡ badKept (now (kept .entry)) (now (codes .entry)) ⌝ }
 {
-    if order::falls(kept) {
+    if point_order::falls(kept) {
         return true;
     }
-    if order::last_above(CodePoint::UNICODE_MAX, kept) {
+    if point_order::last_above(CodePoint::UNICODE_MAX, kept) {
         return true;
     }
-    order::lacks(kept, codes)
+    point_order::lacks(kept, codes)
 }
 
 pub fn bad_requested(n: usize, requested: &[u16]) -> bool

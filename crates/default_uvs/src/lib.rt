@@ -47,7 +47,7 @@ fn copy_range(out: &mut [u8], to: usize, start: u32, additional: u32)
     requires { ⌜ (to + 4 ≤ length (now out)) ⌝ }
     ensures { λ _. ⌜ now (out .exit) ≡ sets (now (out .entry)) to (rangeBytes (start, additional)) ⌝ }
 {
-    number::put_u24(out, to, start);
+    number_writer::put_u24(out, to, start);
     out[to + 3] = (additional % 256) as u8;
 }
 
@@ -127,5 +127,5 @@ pub fn copy_default_uvs(
     if n == 0 {
         return;
     }
-    number::put_u32(out, to, n as u32);
+    number_writer::put_u32(out, to, n as u32);
 }

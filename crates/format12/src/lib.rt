@@ -50,9 +50,9 @@ fn put_group(out: &mut [u8], at: usize, group: Group)
     requires { ⌜ at + 12 ≤ length (now out) ⌝ }
     ensures { λ _. ⌜ now (out .exit) ≡ sets (now (out .entry)) at (encs 4 (fields (group ∷ []))) ⌝ }
 {
-    number::put_u32(out, at, group.start);
-    number::put_u32(out, at + 4, group.end);
-    number::put_u32(out, at + 8, group.glyph as u32);
+    number_writer::put_u32(out, at, group.start);
+    number_writer::put_u32(out, at + 4, group.end);
+    number_writer::put_u32(out, at + 8, group.glyph as u32);
 }
 
 // Writes the groups that the pairs make.
@@ -85,11 +85,11 @@ fn write_header(out: &mut [u8], at: usize, language: u32, groups: usize)
     requires { ⌜ (at + 16 ≤ length (now out)) × (groups ≤ 65535) ⌝ }
     ensures { λ _. ⌜ now (out .exit) ≡ sets (now (out .entry)) at (header 12 language groups) ⌝ }
 {
-    number::put_u16(out, at, 12);
-    number::put_u16(out, at + 2, 0);
-    number::put_u32(out, at + 4, (16 + 12 * groups) as u32);
-    number::put_u32(out, at + 8, language);
-    number::put_u32(out, at + 12, groups as u32);
+    number_writer::put_u16(out, at, 12);
+    number_writer::put_u16(out, at + 2, 0);
+    number_writer::put_u32(out, at + 4, (16 + 12 * groups) as u32);
+    number_writer::put_u32(out, at + 8, language);
+    number_writer::put_u32(out, at + 12, groups as u32);
 }
 
 // Writes the subtable of the pairs, in as many groups as format12_size found.

@@ -39,10 +39,10 @@ fn put_four(out: &mut [u8], at: usize, a: u32, b: u32, c: u32, d: u32)
     requires { ⌜ at + 8 ≤ length (now out) ⌝ }
     ensures { λ _. ⌜ now (out .exit) ≡ sets (now (out .entry)) at (encs 2 (a ∷ b ∷ c ∷ d ∷ [])) ⌝ }
 {
-    number::put_u16(out, at, a);
-    number::put_u16(out, at + 2, b);
-    number::put_u16(out, at + 4, c);
-    number::put_u16(out, at + 6, d);
+    number_writer::put_u16(out, at, a);
+    number_writer::put_u16(out, at + 2, b);
+    number_writer::put_u16(out, at + 4, c);
+    number_writer::put_u16(out, at + 6, d);
 }
 
 // searchRange, entrySelector and rangeShift of s segments.
@@ -51,9 +51,9 @@ fn put_search(out: &mut [u8], at: usize, s: u32)
     ensures { λ _. ⌜ now (out .exit) ≡ sets (now (out .entry)) at (encs 2 ((2 * 2 ^ floorLog2 s) ∷ floorLog2 s ∷ (2 * s - 2 * 2 ^ floorLog2 s) ∷ [])) ⌝ }
 {
     let l = floor_log2(s);
-    number::put_u16(out, at, 2 * l.power);
-    number::put_u16(out, at + 2, l.e);
-    number::put_u16(out, at + 4, 2 * s - 2 * l.power);
+    number_writer::put_u16(out, at, 2 * l.power);
+    number_writer::put_u16(out, at + 2, l.e);
+    number_writer::put_u16(out, at + 4, 2 * s - 2 * l.power);
 }
 
 // The seven numbers of the header, and the zero after the ends.
@@ -70,7 +70,7 @@ fn put_header(out: &mut [u8], at: usize, language: u32, s: usize, g: usize)
         (2 * s) as u32,
     );
     put_search(out, at + 8, s as u32);
-    number::put_u16(out, at + 14 + 2 * s, 0);
+    number_writer::put_u16(out, at + 14 + 2 * s, 0);
 }
 
 // The columns and the glyph array.

@@ -6,12 +6,14 @@ use mathlib.Core.Bool.{true, false, not}
 use lib.ListN.{length}
 use lib.Dec.{ltb, eqb}
 use borrow.Author.Tests.{ltb-false, le-ltb, eqb-true, eq-eqb}
-use Rattle.laws.proofs.ChoiceLaws.{by-pick}
+use Rattle.laws.proofs.ChoiceLaws.{by-pick, else-lt}
 use Rattle.laws.proofs.EitherLaws.{not-false, true-of-not, neither-left, neither-right}
 use Rattle.number.specs.Limits.{recordsMax}
+use Rattle.number.specs.BigEndian.{Num}
 use Rattle.header.specs.declared.Header.{Header}
 use Rattle.header.specs.declared.Header.the-variants.{Records, Refused}
-use Rattle.header.specs.Header.{version, recordCount, refused5, headerOf}
+use Rattle.header.specs.declared.Entry.the-variants.{Record}
+use Rattle.header.specs.Header.{version, recordCount, refused5, headerOf, offsetOf, entryAt}
 
 -- n records follow the header
 pub record Accepted (xs : List ℕ) (n : ℕ) : Type 0 where
@@ -63,4 +65,9 @@ tells-refused xs e = subst Told e (by-pick Told (refused5 xs) Refused (Records (
     Told (Records n) = Unit {0}
     Told Refused = refused5 xs ≡ true
 
--- ---- the records behind an accepted header are there
+-- ---- a record whose eight bytes are there, by the numbers that were read
+
+pub gives-record : (xs : List ℕ) (k p e o : ℕ) → 12 + 8 * k ≤ length xs → Num 2 xs (4 + 8 * k) p → Num 2 xs (6 + 8 * k) e → o ≡ offsetOf xs k
+    → Record (record { platform = p; encoding = e; offset = o }) ≡ entryAt xs k
+unfolding entryAt
+gives-record xs k p e o h a b d = else-lt _ _ _ _ h (rw (a .is, b .is, d))

@@ -30,7 +30,7 @@ fn find4_in(s: &[u8], at: usize, segments: usize, length: usize, c: u32) -> Foun
     }
     let i = first_segment(s, at, segments, length, c);
     if i < segments {
-        return lookup::in_segment(s, at, segments, length, i, c);
+        return segment_lookup::in_segment(s, at, segments, length, i, c);
     }
     Found::Nothing
 }

@@ -113,5 +113,5 @@ pub fn copy_non_default_uvs(
     if n == 0 {
         return;
     }
-    number::put_u32(out, to, n as u32);
+    number_writer::put_u32(out, to, n as u32);
 }

@@ -1,23 +1,21 @@
--- What a list that breaks nothing is, and the tests of all numbers asked place by place.
+-- What a list that breaks nothing is, and that the last number of a rising list tells of all.
 use Prim.Native.Nat.{ℕ, _+_, _-_, _<_, _≤_}
-use mathlib.Core.Path.{_≡_, sym, ap, _∙_}
+use mathlib.Core.Path.{_≡_, sym, _∙_}
 use mathlib.Core.List.{List}
-use mathlib.Core.Bool.{Bool, true, false, not}
+use mathlib.Core.Bool.{Bool, true, false}
 use native.Mathlib.Numerals.{add-one}
 use native.Mathlib.Omega.{arith}
-use lib.Dec.{leb, ltb, eqb}
+use lib.Dec.{leb, ltb}
 use lib.ListN.{length, getD}
 use borrow.Author.Tests.{lt-ltb, le-leb, ltb-true, ltb-false, leb-true, leb-false}
 use Rattle.laws.specs.Search.{some}
 use Rattle.laws.specs.Lists.{Rising}
 use Rattle.laws.specs.Select.{anyOf}
-use Rattle.marks.specs.Marks.{holds, Bound}
-use Rattle.marks.proofs.BelowLaws.{below-past, below-upto, member-here, member-nowhere}
 use Rattle.laws.proofs.SomeLaws.{some-false, some-none}
-use Rattle.laws.proofs.ChoiceLaws.{false-true, not-true, by-test, by-leb}
-use Rattle.laws.proofs.RisingLaws.{rising-lt, rising-le}
+use Rattle.laws.proofs.ChoiceLaws.{false-true, not-true, by-test}
+use Rattle.laws.proofs.RisingLaws.{rising-le}
 use Rattle.laws.proofs.AnyLaws.{anyOf-some}
-use Rattle.order.specs.Order.{falls, exceeds, notBelowNext, lacks, reachesCount}
+use Rattle.order.specs.Order.{falls, exceeds, notBelowNext, reachesCount}
 
 -- ---- a list that breaks nothing
 
@@ -44,19 +42,6 @@ isAbove m xs i = ltb m (getD xs i 0)
 pub at-most : (m : ℕ) (xs : List ℕ) → exceeds m xs ≡ false → (i : ℕ) → i < length xs → getD xs i 0 ≤ m
 unfolding exceeds
 at-most m xs e i h = ltb-false m (getD xs i 0) (some-false (isAbove m xs) (length xs) 0 (sym (anyOf-some (ltb m) 0 xs) ∙ e) i (omega arith) (omega arith))
-
--- ---- asked place by place
-
-pub exceeds-told : (m : ℕ) (xs : List ℕ) (r : Bool) → r ≡ some (isAbove m xs) (length xs) 0 → r ≡ exceeds m xs
-unfolding exceeds
-exceeds-told m xs r e = e ∙ sym (anyOf-some (ltb m) 0 xs)
-
-abbrev pub isMissing : List ℕ → List ℕ → ℕ → Bool
-isMissing kept codes i = not (holds kept (getD codes i 0))
-
-pub lacks-told : (kept codes : List ℕ) (r : Bool) → r ≡ some (isMissing kept codes) (length codes) 0 → r ≡ lacks kept codes
-unfolding lacks
-lacks-told kept codes r e = e ∙ sym (anyOf-some (λ c. not (holds kept c)) 0 codes)
 
 -- ---- of a rising list the last alone is asked
 
@@ -99,23 +84,3 @@ module _ (m : ℕ) (xs : List ℕ) where
   none-reaches h = none-told (leb m) xs h
 
 pub ruleset by-last = (last-exceeds, none-exceeds, last-reaches, none-reaches)
-
--- ---- c stands behind the kept points below it, or nowhere
-
-module _ (kept : List ℕ) (c i : ℕ) where
-  pub kept-here : Rising kept → i < length kept → getD kept i 0 ≡ c → Bound kept c i
-  kept-here r h e =
-      let most = below-upto kept c i r h (omega arith) in
-      by-leb (Bound kept c i) i 0
-      (λ (z : i ≤ 0). record { is = omega arith; within = omega arith })
-      (λ (z : 0 < i).
-      let least = below-past kept c (i - 1) r (omega arith) (omega (arith, rising-lt r (i - 1) i (omega arith) h)) in
-      record { is = omega arith; within = omega arith })
-
-  pub missing-here : Rising kept → Bound kept c i → i < length kept → not (eqb (getD kept i 0) c) ≡ not (holds kept c)
-  missing-here r b h = ap not (member-here kept c i r b h)
-
-  pub missing-nowhere : Rising kept → Bound kept c i → length kept ≤ i → true ≡ not (holds kept c)
-  missing-nowhere r b h = ap not (member-nowhere kept c i r b h)
-
-pub ruleset missing = (missing-here, missing-nowhere)

@@ -160,7 +160,7 @@ fn outcome_of(
     ensures { λ _. ⌜ Fronted (now (s .entry)) (length (now (map .entry))) (now (codes .entry)) (now (glyphs .entry)) (now (fronts .exit)) ⌝ }
     ensures { λ r. ⌜ Stays (job (now (s .entry)) (now (codes .entry)) (now (glyphs .entry)) (now (kept .entry)) (now (map .entry)) (now (requested .entry))) os k r (now (ends .entry)) (now (ends .exit)) ⌝ }
 {
-    if records::retain_encoding_record_for_subset(s, k) {
+    if retaining::retain_encoding_record_for_subset(s, k) {
         return retained_outcome(
             s,
             m,

@@ -19,7 +19,7 @@ fn put_glyphs(out: &mut [u8], at: usize, glyphs: &[u16], k: usize, n: usize)
     let mut i: usize = 0;
     while i < n {
         let g = glyphs[k + i];
-        number::put_u16(out, at + 2 * i, g as u32);
+        number_writer::put_u16(out, at + 2 * i, g as u32);
         i += 1;
     }
 }
@@ -64,9 +64,9 @@ impl RangeWriter {
         requires { ⌜ (self .ends + 2 ≤ length (now out)) × ((self .starts + 2 ≤ length (now out)) × (self .deltas + 2 ≤ length (now out))) ⌝ }
         ensures { λ _. ⌜ now (out .exit) ≡ putThree (now (out .entry)) self x ⌝ }
     {
-        number::put_u16(out, self.ends, x.end as u32);
-        number::put_u16(out, self.starts, x.start as u32);
-        number::put_u16(out, self.deltas, x.delta as u32);
+        number_writer::put_u16(out, self.ends, x.end as u32);
+        number_writer::put_u16(out, self.starts, x.start as u32);
+        number_writer::put_u16(out, self.deltas, x.delta as u32);
     }
 
     fn rangeoffset_glyph_ids(self, out: &mut [u8], glyphs: &[u16], x: Segment)
@@ -75,7 +75,7 @@ impl RangeWriter {
     {
         let offset = self.offset_of(x);
         let n = format4::entries_of(x);
-        number::put_u16(out, self.offsets, offset);
+        number_writer::put_u16(out, self.offsets, offset);
         put_glyphs(out, self.array, glyphs, self.next, n);
     }
 

@@ -14,17 +14,17 @@ pub fn put_header(out: &mut [u8], count: usize)
     requires { ⌜ count ≤ 64 ⌝ }
     ensures { λ _. ⌜ now (out .exit) ≡ sets (now (out .entry)) 0 (enc 2 0 ++ enc 2 count) ⌝ }
 {
-    number::put_u16(out, 0, 0);
-    number::put_u16(out, 2, count as u32);
+    number_writer::put_u16(out, 0, 0);
+    number_writer::put_u16(out, 2, count as u32);
 }
 
 fn put_numbers(out: &mut [u8], place: usize, platform: u32, encoding: u32, offset: usize)
     requires { ⌜ place + 8 ≤ length (now out) ⌝ }
     ensures { λ _. ⌜ now (out .exit) ≡ sets (now (out .entry)) place (enc 2 platform ++ (enc 2 encoding ++ enc 4 offset)) ⌝ }
 {
-    number::put_u16(out, place, platform);
-    number::put_u16(out, place + 2, encoding);
-    number::put_u32(out, place + 4, (offset % 4294967296) as u32);
+    number_writer::put_u16(out, place, platform);
+    number_writer::put_u16(out, place + 2, encoding);
+    number_writer::put_u32(out, place + 4, (offset % 4294967296) as u32);
 }
 
 // Writes record k, with the offset of the table that serves it.

@@ -1,4 +1,4 @@
-// Which records of a source are retained, and whether refusal 6 or 7 is due.
+// The records of a source: the pair of each, and what it leads to. Which are retained, and refusals 6 and 7, are defined here.
 use header::EncodingRecord;
 use header::Entry;
 use source::Kind;
@@ -6,7 +6,7 @@ ghost use mathlib.Core.Path.{_≡_};
 ghost use lib.Dec.{eqb};
 ghost use Rattle.laws.specs.Choice.{both};
 ghost use Rattle.header.specs.Header.{recordOf};
-ghost use Rattle.records.specs.Records.{leadsTo, isPair, leadsToFormat, bmpPair, fullPair, retained, isWanted, someRetained, refused6, refused7, Placed, Counted};
+ghost use Rattle.records.specs.Records.{leadsTo, isPair, leadsToFormat, Placed};
 
 // What refusals 6 and 7 ask of a record: a readable format 12, (0,3) or (3,1), (0,4) or (3,10).
 pub enum Wanted {
@@ -53,101 +53,10 @@ pub fn is_pair(s: &[u8], k: usize, platform: u32, encoding: u32) -> bool
     has_pair(encoding_record(s, k), platform, encoding)
 }
 
-fn is_bmp(s: &[u8], k: usize) -> bool
-    requires { ⌜ Placed (now s) k ⌝ }
-    ensures { λ r. ⌜ r ≡ bmpPair (now (s .entry)) k ⌝ }
-{
-    if is_pair(s, k, 0, 3) {
-        return true;
-    }
-    is_pair(s, k, 3, 1)
-}
-
-fn is_full(s: &[u8], k: usize) -> bool
-    requires { ⌜ Placed (now s) k ⌝ }
-    ensures { λ r. ⌜ r ≡ fullPair (now (s .entry)) k ⌝ }
-{
-    if is_pair(s, k, 0, 4) {
-        return true;
-    }
-    is_pair(s, k, 3, 10)
-}
-
 pub fn leads_to_format(s: &[u8], k: usize, format: u32) -> bool
     requires { ⌜ Placed (now s) k ⌝ }
     ensures { λ r. ⌜ r ≡ leadsToFormat format (now (s .entry)) k ⌝ }
 {
     let kind = leads_to(s, k);
     source::format_of(kind) == format
-}
-
-pub fn retain_encoding_record_for_subset(s: &[u8], k: usize) -> bool
-    requires { ⌜ Placed (now s) k ⌝ }
-    ensures { λ r. ⌜ r ≡ retained (now (s .entry)) k ⌝ }
-{
-    if is_bmp(s, k) {
-        return true;
-    }
-    if is_full(s, k) {
-        return true;
-    }
-    leads_to_format(s, k, 14)
-}
-
-fn is_wanted(wanted: Wanted, s: &[u8], k: usize) -> bool
-    requires { ⌜ Placed (now s) k ⌝ }
-    ensures { λ r. ⌜ r ≡ isWanted wanted (now (s .entry)) k ⌝ }
-{
-    match wanted {
-        Wanted::Format12 => leads_to_format(s, k, 12),
-        Wanted::Bmp => is_bmp(s, k),
-        Wanted::Full => is_full(s, k),
-    }
-}
-
-fn is_retained_and_wanted(wanted: Wanted, s: &[u8], k: usize) -> bool
-    requires { ⌜ Placed (now s) k ⌝ }
-    ensures { λ r. ⌜ r ≡ both (retained (now (s .entry)) k) (isWanted wanted (now (s .entry)) k) ⌝ }
-{
-    if retain_encoding_record_for_subset(s, k) {
-        return is_wanted(wanted, s, k);
-    }
-    false
-}
-
-// Whether some retained record of the first n is wanted.
-fn some_retained(wanted: Wanted, s: &[u8], n: usize) -> bool
-    requires { ⌜ Counted (now s) n ⌝ }
-    ensures { λ r. ⌜ r ≡ someRetained (isWanted wanted) (now (s .entry)) ⌝ }
-{
-    let mut k = 0;
-    while k < n {
-        if is_retained_and_wanted(wanted, s, k) {
-            return true;
-        }
-        k += 1;
-    }
-    false
-}
-
-// Refusal 6.
-pub fn lacks_bmp(s: &[u8], n: usize) -> bool
-    requires { ⌜ Counted (now s) n ⌝ }
-    ensures { λ r. ⌜ r ≡ refused6 (now (s .entry)) ⌝ }
-{
-    if some_retained(Wanted::Format12, s, n) {
-        return false;
-    }
-    !some_retained(Wanted::Bmp, s, n)
-}
-
-// Refusal 7.
-pub fn lacks_full(s: &[u8], n: usize) -> bool
-    requires { ⌜ Counted (now s) n ⌝ }
-    ensures { λ r. ⌜ r ≡ refused7 (now (s .entry)) ⌝ }
-{
-    if some_retained(Wanted::Format12, s, n) {
-        return !some_retained(Wanted::Full, s, n);
-    }
-    false
 }

@@ -46,10 +46,10 @@ fn format_refusal(s: &[u8], m: usize) -> u8
     requires { ⌜ Counted (now s) m ⌝ }
     ensures { λ r. ⌜ r ≡ formatRefusal (now (s .entry)) ⌝ }
 {
-    if records::lacks_bmp(s, m) {
+    if wanted_records::lacks_bmp(s, m) {
         return 6;
     }
-    if records::lacks_full(s, m) {
+    if wanted_records::lacks_full(s, m) {
         return 7;
     }
     0

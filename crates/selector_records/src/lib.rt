@@ -57,9 +57,9 @@ fn copy_var_selector_record_header(
     requires { ⌜ place + 11 ≤ length (now out) ⌝ }
     ensures { λ _. ⌜ now (out .exit) ≡ sets (now (out .entry)) place (recordBytes selector first second) ⌝ }
 {
-    number::put_u24(out, place, selector);
-    number::put_u32(out, place + 3, first);
-    number::put_u32(out, place + 7, second);
+    number_writer::put_u24(out, place, selector);
+    number_writer::put_u32(out, place + 3, first);
+    number_writer::put_u32(out, place + 7, second);
 }
 
 // Writes record k of the source's subtable at `at`, with its new offsets.
@@ -113,7 +113,7 @@ pub fn put_header(out: &mut [u8], place: usize, total: u32, count: u32)
     requires { ⌜ place + 10 ≤ length (now out) ⌝ }
     ensures { λ _. ⌜ now (out .exit) ≡ sets (now (out .entry)) place (header14 total count) ⌝ }
 {
-    number::put_u16(out, place, 14);
-    number::put_u32(out, place + 2, total);
-    number::put_u32(out, place + 6, count);
+    number_writer::put_u16(out, place, 14);
+    number_writer::put_u32(out, place + 2, total);
+    number_writer::put_u32(out, place + 6, count);
 }

@@ -54,6 +54,6 @@ pub fn copy_uvs_mapping(out: &mut [u8], to: usize, s: &[u8], place: usize, map: 
     let c = number::u24_at(s, place);
     let old = number::u16_at(s, place + 3);
     let new = new_glyph(map, old) as u32;
-    number::put_u24(out, to, c);
-    number::put_u16(out, to + 3, new);
+    number_writer::put_u24(out, to, c);
+    number_writer::put_u16(out, to + 3, new);
 }

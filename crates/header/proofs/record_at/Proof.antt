@@ -1,6 +1,7 @@
 -- The bound on k is that of the record's eight bytes, divided so that nothing wraps.
 use Rattle.header.specs.Header.{entryAt}
-use Rattle.laws.proofs.ChoiceLaws.{if-lt, else-lt}
+use Rattle.header.proofs.HeaderLaws.{gives-record}
+use Rattle.laws.proofs.ChoiceLaws.{if-lt}
 use mathlib.Core.Path.{refl}
 use native.Mathlib.Omega.{arith}
 use borrow.Author.Needs.{needs}
@@ -37,8 +38,7 @@ offset-of-requires : tie.Need-offset-of-requires
 offset-of-requires c κs = omega arith
 
 returns-3 : tie.Need-returns-3
-unfolding entryAt
-returns-3 c = else-lt _ _ _ _ (omega arith) (cc)
+returns-3 c = gives-record _ _ _ _ _ (omega arith) (search needs) (search needs) (search needs)
 
 pub record-at-spec : {M : Type 1} → statement M
 record-at-spec =
