@@ -62,7 +62,7 @@ fn write12_of(
     requires { ⌜ Room12 (pairs (take m (now codes)) (take m (now glyphs))) groups at (length (now out)) ⌝ }
     ensures { λ _. ⌜ now (out .exit) ≡ sets (now (out .entry)) at (format12 language (pairs (take m (now (codes .entry))) (take m (now (glyphs .entry))))) ⌝ }
 {
-    format12::write_format12(out, at, language, &codes[..m], &glyphs[..m], groups);
+    format12_writer::write_format12(out, at, language, &codes[..m], &glyphs[..m], groups);
 }
 
 // Measures and writes the format 12 subtable of the first m pairs.

@@ -1,10 +1,10 @@
 -- The groups of the pairs ahead, written behind what was, give the groups of the definition.
-use Rattle.format12.proofs.write_groups.Statement.{statement}
-use Rattle.format12.proofs.write_groups.Tie as tie
+use Rattle.format12_writer.proofs.write_groups.Statement.{statement}
+use Rattle.format12_writer.proofs.write_groups.Tie as tie
 use Prim.Native.Nat.{_-_}
 use lib.ListN.{length}
 use borrow.Author.Needs.{needs}
-use Rattle.format12.proofs.WalkLaws.{Writing, writing, writing-on}
+use Rattle.format12_writer.proofs.WritingLaws.{Writing, writing, writing-on}
 
 abbrev Inv-loop : tie.InvT-loop
 Inv-loop out₀ at codes glyphs to₀ i₀ out to i = Writing codes glyphs out₀ at out to i

@@ -1,8 +1,8 @@
 -- The header, and behind it the groups.
-use Rattle.format12.proofs.TableLaws.{header-room, written-table}
+use Rattle.format12_writer.proofs.SubtableLaws.{header-room, written-table}
 use borrow.Author.Needs.{needs}
-use Rattle.format12.proofs.write_format12.Statement.{statement}
-use Rattle.format12.proofs.write_format12.Tie as tie
+use Rattle.format12_writer.proofs.write_format12.Statement.{statement}
+use Rattle.format12_writer.proofs.write_format12.Tie as tie
 
 write-header-requires : tie.Need-write-header-requires
 write-header-requires c κs = let p = c .before .before .before .before .pre in header-room _ _ _ _ _ (p .1) (p .0)

@@ -3,10 +3,10 @@ use native.Mathlib.Omega.{arith}
 use Rattle.number.specs.BigEndian.{enc}
 use Rattle.number.specs.Row.{encs}
 use Rattle.number.proofs.BigEndianLaws.{written-first, written-on}
 use Rattle.format12.specs.Format12.{header}
 use borrow.Author.Needs.{needs}
-use Rattle.format12.proofs.write_header.Statement.{statement}
-use Rattle.format12.proofs.write_header.Tie as tie
+use Rattle.format12_header.proofs.write_header.Statement.{statement}
+use Rattle.format12_header.proofs.write_header.Tie as tie
 
 put-u16-requires : tie.Need-put-u16-requires
 put-u16-requires c κs = search needs

@@ -4,8 +4,8 @@ use Rattle.number.specs.BigEndian.{enc}
 use Rattle.number.specs.Row.{encs}
 use Rattle.number.proofs.BigEndianLaws.{written-first, written-on}
 use borrow.Author.Needs.{needs}
-use Rattle.format12.proofs.put_group.Statement.{statement}
-use Rattle.format12.proofs.put_group.Tie as tie
+use Rattle.format12_writer.proofs.put_group.Statement.{statement}
+use Rattle.format12_writer.proofs.put_group.Tie as tie
 
 put-u32-requires : tie.Need-put-u32-requires
 put-u32-requires c κs = search needs
