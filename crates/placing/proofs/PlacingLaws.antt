@@ -1,15 +1,16 @@
 -- The loop that places the tables from the last to the first: its invariant, and a rule for each way on.
 use Prim.Native.Nat.{ℕ, _+_, _-_, _*_, _^_, _<_, _≤_}
-use mathlib.Core.Path.{_≡_, sym, ap, _∙_}
+use mathlib.Core.Path.{_≡_, refl, sym, ap, _∙_}
 use mathlib.Core.List.{List}
 use mathlib.Core.Bool.{Bool}
 use native.Mathlib.Omega.{arith}
 use lib.ListN.{length, getD, set, length-set}
 use lib.Seq.{getD-set-same, getD-set-other}
 use Rattle.laws.specs.Pieces.{concat}
+use Rattle.laws.specs.Choice.{ifLt}
 use Rattle.laws.specs.Select.{eqList}
 use Rattle.laws.specs.Lasts.{lasts, behind}
-use Rattle.laws.proofs.ChoiceLaws.{by-leb}
+use Rattle.laws.proofs.ChoiceLaws.{by-leb, if-lt, else-lt}
 use Rattle.laws.proofs.FirstLaws.{first-from, first-holds, first-none}
 use Rattle.laws.proofs.EqListLaws.{eq-true}
 use Rattle.laws.proofs.LastsLaws.{length-concat}
@@ -67,7 +68,7 @@ module _ (f : ℕ → List ℕ) (m k : ℕ) (ends : List ℕ) (tail : ℕ) (ls :
     some-length : 0 < length (f (k - 1))
     some-length = omega (arith, length-is)
 
-    pub placing-again : j < m → Placing f m (k - 1) (set ends (k - 1) (getD ends j 0)) tail
+    placing-again : j < m → Placing f m (k - 1) (set ends (k - 1) (getD ends j 0)) tail
     placing-again l =
         let t : ℕ → Bool = λ i. eqList (f (k - 1)) (f i) in
         let low = first-from t (m - (k - 1 + 1)) (k - 1 + 1) in
@@ -83,7 +84,7 @@ module _ (f : ℕ → List ℕ) (m k : ℕ) (ends : List ℕ) (tail : ℕ) (ls :
           each = each-more (getD ends j 0) (p .each j (omega (arith, e)) l ∙ ap (λ u. behind u (Written f m 0)) (sym equal));
         }
 
-    pub placing-new : m ≤ j → Placing f m (k - 1) (set ends (k - 1) (tail + getD ls (k - 1) 0)) (tail + getD ls (k - 1) 0)
+    placing-new : m ≤ j → Placing f m (k - 1) (set ends (k - 1) (tail + getD ls (k - 1) 0)) (tail + getD ls (k - 1) 0)
     placing-new l =
         let t : ℕ → Bool = λ i. eqList (f (k - 1)) (f i) in
         let no = first-none t (m - (k - 1 + 1)) (k - 1 + 1) (omega (arith, e, p .within)) in
@@ -98,6 +99,20 @@ module _ (f : ℕ → List ℕ) (m k : ℕ) (ends : List ℕ) (tail : ℕ) (ls :
           each = each-more (tail + getD ls (k - 1) 0) (omega (arith, far, p .total, length-is));
         }
 
+    -- the distance and the length are the code's own
+    pub placing-there : (next : List ℕ) (r : ℕ) → next ≡ set ends (k - 1) (ifLt j m (getD ends j 0) (tail + getD ls (k - 1) 0)) → r ≡ ifLt j m tail (tail + getD ls (k - 1) 0)
+        → Placing f m (k - 1) next r
+    placing-there next r d w =
+        by-leb (Placing f m (k - 1) next r) m j
+        (λ l.
+        let u = d ∙ sym (ap (set ends (k - 1)) (else-lt j m (getD ends j 0) (tail + getD ls (k - 1) 0) l refl)) in
+        let v = w ∙ sym (else-lt j m tail (tail + getD ls (k - 1) 0) l refl) in
+        rw (u, v) (placing-new l))
+        (λ l.
+        let u = d ∙ sym (ap (set ends (k - 1)) (if-lt j m (getD ends j 0) (tail + getD ls (k - 1) 0) l refl)) in
+        let v = w ∙ sym (if-lt j m tail (tail + getD ls (k - 1) 0) l refl) in
+        rw (u, v) (placing-again l))
+
 -- at the end every table has its distance
 pub placing-ends : (f : ℕ → List ℕ) (m k : ℕ) (ends : List ℕ) (tail : ℕ) → Placing f m k ends tail → k ≤ 0 → Ends f m ends
 placing-ends f m k ends tail p h = record { room = p .room; each = λ j b. p .each j (omega arith) b }
@@ -107,7 +122,7 @@ placing-total f m k ends tail p h =
     let z : k ≡ 0 = omega arith in
     record { is = rw z at (p .total); few = omega (arith, p .few) }
 
-pub ruleset placing = (placing-start, placing-missing, placing-again, placing-new)
+pub ruleset placing = (placing-start, placing-missing, placing-there)
 
 -- sums stay small
 pub tail-fits : (f : ℕ → List ℕ) (m k : ℕ) (ends : List ℕ) (tail : ℕ) (ls xs : List ℕ) (at len : ℕ) (kept requested flags others : List ℕ) → Placing f m k ends tail → Lengths f m ls → 0 < k

@@ -31,13 +31,10 @@ fn equal_tables(
     requires { ⌜ 0 < getD (now lengths) t 0 ⌝ }
     ensures { λ r. ⌜ r ≡ eqList (slot (given (now (s .entry)) at len (now (kept .entry)) (now (map .entry)) (now (requested .entry))) t) (slot (given (now (s .entry)) at len (now (kept .entry)) (now (map .entry)) (now (requested .entry))) j) ⌝ }
 {
-    if lengths[t] != lengths[j] {
-        return false;
+    if alike_tables::alike(lengths, sums, t, j) {
+        return uvs_tables::same_table(s, at, len, kept, map, requested, flags, others, t, j);
     }
-    if sums[t] != sums[j] {
-        return false;
-    }
-    uvs_tables::same_table(s, at, len, kept, map, requested, flags, others, t, j)
+    false
 }
 
 // The next table after t, which is there, that equals it; m if none does.
@@ -131,12 +128,7 @@ pub fn place_tables(
                 m,
                 k,
             );
-            if j < m {
-                ends[k] = ends[j];
-            } else {
-                tail += size;
-                ends[k] = tail;
-            }
+            tail = alike_tables::place_table(ends, m, k, size, j, tail);
         }
     }
     tail

@@ -1,23 +1,17 @@
--- The work room is enough for a job that refusals 1 to 7 let pass, and stays so while it is written to.
+-- The work room is enough for a job that refusals 1 to 7 let pass.
 use Prim.Native.Nat.{ℕ, _≤_}
-use mathlib.Core.Path.{_≡_, refl}
+use mathlib.Core.Path.{_≡_}
 use mathlib.Core.List.{List}
 use native.Mathlib.Omega.{arith}
 use lib.ListN.{length}
 use Rattle.header.specs.Header.{recordCount}
 use Rattle.checks.proofs.SizesLaws.{Sizes, sizes}
 use Rattle.listing.specs.Job.{Job, job}
-use Rattle.outcomes.specs.declared.Outcome.{Outcome}
-use Rattle.fresh.specs.Notes.{Fronted}
 use Rattle.plan.specs.Plan.{Prepared}
-use Rattle.plan.specs.Notes.{Endings}
-use Rattle.plan.proofs.PlanLaws.{prepared-again}
 use Rattle.result.proofs.RefusalLaws.{early-passed}
 use Rattle.refusing.proofs.RefusingLaws.{early-prepared}
-use Rattle.table_places.specs.Counts.{Counts}
-use Rattle.writing.specs.Writing.{Planned as Written, Noted}
-use Rattle.concluding.specs.Concluding.{Passing, Planned}
-use Rattle.rooms.specs.Rooms.{Few, Enough}
+use Rattle.concluding.specs.Concluding.{Passing}
+use Rattle.rooms.specs.Rooms.{Few}
 
 module _ (s cs gs ks ms rs : List ℕ) (p : Passing (job s cs gs ks ms rs)) (flags others tocodes toglyphs : List ℕ) where
   abbrev j : Job
@@ -45,38 +39,3 @@ module _ (s cs gs ks ms rs : List ℕ) (p : Passing (job s cs gs ks ms rs)) (fla
   middle-room = few-room 32768 16384 (omega arith)
 
 pub ruleset rooms = (full-room, small-room, middle-room)
-
-module _ (j : Job) (flags tocodes toglyphs : List ℕ) where
-  -- planning leaves room to write in
-  pub still-enough : (fs ot tocs togs : List ℕ) → Prepared j (recordCount (j .source)) fs ot tocs togs → length flags ≡ length fs → length tocodes ≡ length tocs → length toglyphs ≡ length togs
-      → Enough j flags tocodes toglyphs
-  still-enough fs ot tocs togs p a b c =
-      let r = prepared-again j (recordCount (j .source)) fs ot tocs togs p flags ot tocodes toglyphs a refl b c in
-      record {
-        prepared = record {
-          counted = r .counted;
-          few-records = r .few-records;
-          glyph-count = r .glyph-count;
-          codes-rise = r .codes-rise;
-          few-pairs = r .few-pairs;
-          columns = r .columns;
-          source-small = r .source-small;
-          kept-rises = r .kept-rises;
-          kept-few = r .kept-few;
-          kept-low = r .kept-low;
-          requested-rises = r .requested-rises;
-          code-flags = r .code-flags;
-          kept-flags = r .kept-flags;
-          kept-others = r .kept-flags;
-        };
-      }
-
-  pub to-write : (os : List Outcome) (count : ℕ) → Planned j os → Enough j flags tocodes toglyphs → Counts os count → Written j os count flags tocodes toglyphs
-  to-write os count p r c = record { m = recordCount (j .source); others = flags; prepared = r .prepared; is = p .is; counts = c }
-
-module _ (s cs gs ks ms rs : List ℕ) where
-  pub counted-room : (m : ℕ) (fs ot tocs togs : List ℕ) → m ≡ recordCount s → Prepared (job s cs gs ks ms rs) (recordCount s) fs ot tocs togs → Prepared (job s cs gs ks ms rs) m fs ot tocs togs
-  counted-room m fs ot tocs togs e p = rw e p
-
-  pub notes : (os : List Outcome) (fronts ends : List ℕ) → Fronted s (length ms) cs gs fronts → Endings (job s cs gs ks ms rs) os (recordCount s) ends → Noted (job s cs gs ks ms rs) os fronts ends
-  notes os fronts ends f e = record { fronted = f; endings = e }

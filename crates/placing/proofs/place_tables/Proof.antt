@@ -43,38 +43,16 @@ loop-again c = (search placing, (omega arith, (omega arith, rw length-set (omega
 later-equal-requires : tie.Need-later-equal-requires Inv-loop μ-loop
 later-equal-requires c κs = (search needs, (omega arith, (search needs, (search needs, omega arith))))
 
-mul-ends-2 : tie.Need-mul-ends-2 Inv-loop μ-loop
-mul-ends-2 c = search needs
-
-slice-read-ends : tie.Need-slice-read-ends Inv-loop μ-loop
-slice-read-ends c = search needs
-
-mul-ends-3 : tie.Need-mul-ends-3 Inv-loop μ-loop
-mul-ends-3 c = search needs
-
-slice-write-ends-2 : tie.Need-slice-write-ends-2 Inv-loop μ-loop
-slice-write-ends-2 c = search needs
+place-table-requires : tie.Need-place-table-requires Inv-loop μ-loop
+place-table-requires c κs = (omega arith, search tail-fits)
 
 loop-less-2 : tie.Need-loop-less-2 Inv-loop μ-loop
 loop-less-2 c = omega arith
 
 loop-again-2 : tie.Need-loop-again-2 Inv-loop μ-loop
-loop-again-2 c = (search placing, (omega arith, (omega arith, rw length-set (omega arith))))
-
-add-tail : tie.Need-add-tail Inv-loop μ-loop
-add-tail c = record { fits = search tail-fits }
-
-mul-ends-4 : tie.Need-mul-ends-4 Inv-loop μ-loop
-mul-ends-4 c = search needs
-
-slice-write-ends-3 : tie.Need-slice-write-ends-3 Inv-loop μ-loop
-slice-write-ends-3 c = search needs
-
-loop-less-3 : tie.Need-loop-less-3 Inv-loop μ-loop
-loop-less-3 c = omega arith
-
-loop-again-3 : tie.Need-loop-again-3 Inv-loop μ-loop
-loop-again-3 c = (search placing, (omega arith, (omega arith, rw length-set (omega arith))))
+loop-again-2 c =
+    let p = c .before .before .before .before .before .before .before .before .before .before .before .before .before .before .before .before .before .before .before .before .before .before .before .before .pre in
+    (search (placing, p), omega arith)
 
 same-length : tie.Need-same-length Inv-loop μ-loop
 same-length c = search needs
@@ -103,17 +81,9 @@ place-tables-spec =
     loop-less
     loop-again
     later-equal-requires
-    mul-ends-2
-    slice-read-ends
-    mul-ends-3
-    slice-write-ends-2
+    place-table-requires
     loop-less-2
     loop-again-2
-    add-tail
-    mul-ends-4
-    slice-write-ends-3
-    loop-less-3
-    loop-again-3
     same-length
     same-length-2
     same-length-3

@@ -1,9 +1,9 @@
 -- The answer by the plan tells whether the result is written, and with how many records.
 use Rattle.concluding.proofs.AnswerLaws.{outputs}
-use Rattle.rooms.proofs.RoomsLaws.{to-write}
+use Rattle.carrying.proofs.CarryingLaws.{to-write}
 use borrow.Author.Needs.{needs}
-use Rattle.rooms.proofs.write_result.Statement.{statement}
-use Rattle.rooms.proofs.write_result.Tie as tie
+use Rattle.carrying.proofs.write_result.Statement.{statement}
+use Rattle.carrying.proofs.write_result.Tie as tie
 
 answer-by-requires : tie.Need-answer-by-requires
 answer-by-requires c κs = search needs

@@ -1,9 +1,9 @@
 use Rattle.fresh.proofs.NotesLaws.{fronting}
 use Rattle.concluding.proofs.PassingLaws.{passing}
-use Rattle.rooms.proofs.RoomsLaws.{still-enough, counted-room, notes}
+use Rattle.carrying.proofs.CarryingLaws.{still-enough, counted-room, notes}
 use borrow.Author.Needs.{needs}
-use Rattle.rooms.proofs.carry_out_on.Statement.{statement}
-use Rattle.rooms.proofs.carry_out_on.Tie as tie
+use Rattle.carrying.proofs.carry_out_on.Statement.{statement}
+use Rattle.carrying.proofs.carry_out_on.Tie as tie
 
 record-count-requires : tie.Need-record-count-requires
 record-count-requires c κs = search needs
