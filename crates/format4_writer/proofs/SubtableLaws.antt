@@ -17,7 +17,7 @@ use Rattle.format4.specs.Size.{Columns, lengthOf}
 use Rattle.format4.proofs.CutLaws.{segments-fed}
 use Rattle.format4.proofs.CountLaws.{Told}
 use Rattle.range_writer.specs.Places.{Room, Apart, columnsAt, placesAt, headed}
-use Rattle.range_writer.proofs.PlacesLaws.{apart-at, whole-subtable}
+use Rattle.segment_writer.proofs.PlacesLaws.{apart-at, whole-subtable}
 
 module _ (cs gs : List ℕ) (n : RangeCounter) (k : Columns cs gs) (t : Told (pairs cs gs) n) (at : ℕ) where
   pub told-apart : Apart (placesAt at (n .segments)) (length (segments (pairs cs gs))) 0

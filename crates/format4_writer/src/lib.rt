@@ -88,14 +88,14 @@ fn write_columns(out: &mut [u8], codes: &[u32], glyphs: &[u16], at: RangeWriter)
         let a = state.absorb(codes[i] as u16, glyphs[i]);
         let begun = a.state;
         let c = a.out;
-        w = w.absorb(out, glyphs, c);
+        w = segment_writer::absorb(w, out, glyphs, c);
         i = runs::run_end(codes, glyphs, i);
         state = begun.grow(codes[i - 1] as u16, glyphs[i - 1]);
     }
     let f = state.finish();
     let c = f.out;
-    let v = w.absorb(out, glyphs, c);
-    v.close(out, glyphs, f.close);
+    let v = segment_writer::absorb(w, out, glyphs, c);
+    segment_writer::close(v, out, glyphs, f.close);
 }
 
 // The whole subtable, from at. n is what format4_size gave.

@@ -1,8 +1,8 @@
 -- The three numbers, then offset and glyphs; the places go on.
 use mathlib.Core.Path.{_∙_}
 use borrow.Author.Needs.{needs}
-use Rattle.range_writer.proofs.RangeWriter.write_one_range.Statement.{statement}
-use Rattle.range_writer.proofs.RangeWriter.write_one_range.Tie as tie
+use Rattle.segment_writer.proofs.write_one_range.Statement.{statement}
+use Rattle.segment_writer.proofs.write_one_range.Tie as tie
 
 start-end-delta-requires : tie.Need-start-end-delta-requires
 start-end-delta-requires c κs = search needs

@@ -1,7 +1,7 @@
 -- Each place goes on by what the segment takes there.
 use borrow.Author.Needs.{needs}
-use Rattle.range_writer.proofs.RangeWriter.after.Statement.{statement}
-use Rattle.range_writer.proofs.RangeWriter.after.Tie as tie
+use Rattle.segment_writer.proofs.after.Statement.{statement}
+use Rattle.segment_writer.proofs.after.Tie as tie
 
 add-t3 : tie.Need-add-t3
 add-t3 c = search needs

@@ -1,10 +1,10 @@
 -- One glyph is put, and the rest of the part is left behind it.
 use Prim.Native.Nat.{_+_, _-_}
 use native.Mathlib.Omega.{arith}
-use Rattle.range_writer.proofs.PlacesLaws.{Copying, copying-start, copying-on, copying-end}
+use Rattle.segment_writer.proofs.PlacesLaws.{Copying, copying-start, copying-on, copying-end}
 use borrow.Author.Needs.{needs}
-use Rattle.range_writer.proofs.put_glyphs.Statement.{statement}
-use Rattle.range_writer.proofs.put_glyphs.Tie as tie
+use Rattle.segment_writer.proofs.put_glyphs.Statement.{statement}
+use Rattle.segment_writer.proofs.put_glyphs.Tie as tie
 
 abbrev Inv-loop : tie.InvT-loop
 Inv-loop out₀ at glyphs k n i₀ out i = Copying glyphs out₀ at k n i out

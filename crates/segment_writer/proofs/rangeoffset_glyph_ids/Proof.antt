@@ -1,7 +1,7 @@
 -- The offset at its place, and the part of the array that begins with the segment's first pair.
 use borrow.Author.Needs.{needs}
-use Rattle.range_writer.proofs.RangeWriter.rangeoffset_glyph_ids.Statement.{statement}
-use Rattle.range_writer.proofs.RangeWriter.rangeoffset_glyph_ids.Tie as tie
+use Rattle.segment_writer.proofs.rangeoffset_glyph_ids.Statement.{statement}
+use Rattle.segment_writer.proofs.rangeoffset_glyph_ids.Tie as tie
 
 offset-of-requires : tie.Need-offset-of-requires
 offset-of-requires c κs = search needs

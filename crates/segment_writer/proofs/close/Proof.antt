@@ -1,9 +1,9 @@
 -- One segment more, or none.
 use mathlib.Core.Path.{refl}
 use Rattle.range_writer.specs.Places.{putAll}
 use borrow.Author.Needs.{needs}
-use Rattle.range_writer.proofs.RangeWriter.close.Statement.{statement}
-use Rattle.range_writer.proofs.RangeWriter.close.Tie as tie
+use Rattle.segment_writer.proofs.close.Statement.{statement}
+use Rattle.segment_writer.proofs.close.Tie as tie
 
 write-one-range-requires : tie.Need-write-one-range-requires
 write-one-range-requires c κs = rw (c .before .if1 .taken) at (c .before .before .before .before .pre)

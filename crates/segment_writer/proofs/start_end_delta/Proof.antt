@@ -1,7 +1,7 @@
 -- Three numbers, each at its place.
 use borrow.Author.Needs.{needs}
-use Rattle.range_writer.proofs.RangeWriter.start_end_delta.Statement.{statement}
-use Rattle.range_writer.proofs.RangeWriter.start_end_delta.Tie as tie
+use Rattle.segment_writer.proofs.start_end_delta.Statement.{statement}
+use Rattle.segment_writer.proofs.start_end_delta.Tie as tie
 
 cast-put-u16 : tie.Need-cast-put-u16
 cast-put-u16 c = search needs

@@ -3,12 +3,12 @@ use Prim.Native.Nat.{ℕ}
 use denote.Ref.{now}
 use mathlib.Core.List.{List, [], _∷_}
 use mathlib.Core.Path.{refl, _∙_, ap, ap₂}
 use Rattle.range_writer.specs.declared.RangeWriter.{RangeWriter}
 use Rattle.range_writer.specs.Places.{putAll, putOne, movedBy, nextOf}
-use Rattle.range_writer.proofs.WalkLaws.{room-front, room-next}
+use Rattle.segment_writer.proofs.WalkLaws.{room-front, room-next}
 use borrow.Author.Needs.{needs}
-use Rattle.range_writer.proofs.RangeWriter.absorb.Statement.{statement}
-use Rattle.range_writer.proofs.RangeWriter.absorb.Tie as tie
+use Rattle.segment_writer.proofs.absorb.Statement.{statement}
+use Rattle.segment_writer.proofs.absorb.Tie as tie
 
 enum-told : tie.Need-enum-told
 enum-told c = search needs

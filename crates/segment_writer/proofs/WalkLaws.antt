@@ -20,9 +20,9 @@ use Rattle.format4.specs.Walk.{Fed}
 use Rattle.ranges.specs.Cutting.{segments, closing, points}
 use Rattle.ranges.proofs.WalkLaws.{walk-cuts}
 use Rattle.ranges.proofs.RunLaws.{run-turn}
 use Rattle.range_writer.specs.declared.RangeWriter.{RangeWriter}
 use Rattle.range_writer.specs.Places.{partOf, nextOf, putOne, putAll, movedBy, Room, columnsAt, Apart}
-use Rattle.range_writer.proofs.PlacesLaws.{put-columns}
+use Rattle.segment_writer.proofs.PlacesLaws.{put-columns}
 
 -- ---- room
 
