@@ -20,10 +20,10 @@ use Rattle.lookup.specs.Lookup.{lookup4, lookup12, glyphOf}
 use Rattle.heads.specs.declared.Answer.the-variants.{Glyph, Refused}
 use Rattle.heads.specs.Heads.{oldHead, newHead}
 use Rattle.heads.proofs.HeadsLaws.{old-first, old-none, new-first, new-as-old}
-use Rattle.outcomes.specs.declared.Outcome.{Outcome}
-use Rattle.outcomes.specs.declared.Outcome.the-variants.{NotRetained, Skipped, Empty, TooLong, Covered, BadMapping, Served, Made}
-use Rattle.outcomes.specs.Outcomes.{isMade}
-use Rattle.fresh.specs.Fresh.{listedOf, tableOf}
+use Rattle.plan.specs.declared.Outcome.{Outcome}
+use Rattle.plan.specs.declared.Outcome.the-variants.{NotRetained, Skipped, Empty, TooLong, Covered, BadMapping, Served, Made}
+use Rattle.plan.specs.Outcomes.{isMade}
+use Rattle.plan.specs.Fresh.{listedOf, tableOf}
 use Rattle.result.specs.Result.{isWritten, makerOf, at, countFrom, written, resultOf}
 use Rattle.result.specs.Result.{offsetOf as offsetIn}
 use Rattle.result.proofs.CountLaws.{count-one, count-find}

@@ -12,7 +12,7 @@ use Rattle.number.specs.BigEndian.{Bytes}
 use Rattle.records.specs.Records.{leadsToFormat}
 use Rattle.listing.specs.Job.{Job}
 use Rattle.heads.specs.Heads.{oldHead, newHead}
-use Rattle.outcomes.specs.Outcomes.{isMade}
+use Rattle.plan.specs.Outcomes.{isMade}
 use Rattle.plan.specs.Plan.{plan}
 use Rattle.result.specs.Result.{makes, at, offsetOf}
 use Rattle.result.proofs.PlacesLaws.{made-written}

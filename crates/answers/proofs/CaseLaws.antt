@@ -19,14 +19,14 @@ use Rattle.order.specs.Order.{falls, exceeds, lacks, reachesCount}
 use Rattle.order.proofs.OrderLaws.{at-most}
 use Rattle.mapped4.specs.Mapped4.{entry4, says4, lastSays, maps4}
 use Rattle.listing.specs.Listing.{maps, listed}
-use Rattle.covering.specs.Covered.{covered, siblingCovers}
+use Rattle.plan.specs.Covered.{covered, siblingCovers}
 use Rattle.ranges.specs.Cutting.{commitRun, cutRuns, cuts, segments, glyphArray}
 use Rattle.ranges.specs.Steps.{arrayFrom}
 use Rattle.format4.specs.Format4.{offsetsFrom, floorLog2, header, format4}
 use Rattle.format4.specs.Size.{sizeOf}
-use Rattle.outcomes.specs.declared.Outcome.the-variants.{NotRetained, Made}
-use Rattle.outcomes.specs.Outcomes.{serves, server}
-use Rattle.fresh.specs.Fresh.{tableOf, fresh}
+use Rattle.plan.specs.declared.Outcome.the-variants.{NotRetained, Made}
+use Rattle.plan.specs.Outcomes.{serves, server}
+use Rattle.plan.specs.Fresh.{tableOf, fresh}
 use Rattle.plan.specs.Plan.{retainedOutcome, outcomeOf, outcomes, plan, refused8, refused9}
 use Rattle.result.specs.Refusal.{refusalOf}
 use Rattle.result.specs.Result.{countFrom, sizesFrom, recordsFrom, tablesBelow, resultOf}

@@ -25,13 +25,13 @@ use Rattle.listing.specs.Listing.{maps}
 use Rattle.heads.specs.declared.Answer.{Answer}
 use Rattle.heads.specs.declared.Answer.the-variants.{Glyph, Refused}
 use Rattle.heads.specs.Heads.{oldHead, newHead, numberOf, printedOf}
-use Rattle.outcomes.specs.declared.Outcome.{Outcome}
-use Rattle.outcomes.specs.Outcomes.{isMade}
-use Rattle.fresh.specs.Fresh.{listedOf}
+use Rattle.plan.specs.declared.Outcome.{Outcome}
+use Rattle.plan.specs.Outcomes.{isMade}
+use Rattle.plan.specs.Fresh.{listedOf}
 use Rattle.plan.specs.Plan.{plan, counts, refused9}
-use Rattle.made.specs.Lent.{Lent}
-use Rattle.made.proofs.LentLaws.{lent}
-use Rattle.made.proofs.ListedLaws.{listed-glyph}
+use Rattle.result.specs.Lent.{Lent}
+use Rattle.result.proofs.LentLaws.{lent}
+use Rattle.result.proofs.ListedLaws.{listed-glyph}
 use Rattle.result.specs.Refusal.{refusalOf}
 use Rattle.result.specs.Result.{isWritten, makerOf, at, resultOf, resultLength, written}
 use Rattle.result.proofs.PlacesLaws.{Sound, maker-of, accepted-result}

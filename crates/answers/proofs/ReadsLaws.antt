@@ -7,10 +7,10 @@ use Rattle.source.specs.Kind.{formatOf}
 use Rattle.records.specs.Records.{leadsTo}
 use Rattle.listing.specs.Job.{Job}
 use Rattle.lookup.specs.Lookup.{lookup4, lookup12}
-use Rattle.outcomes.specs.Outcomes.{sizeOf}
+use Rattle.plan.specs.Outcomes.{sizeOf}
 use Rattle.plan.specs.Plan.{plan}
-use Rattle.made.specs.Lent.{Lent}
-use Rattle.made.proofs.TablesLaws.{made-format, made-finds4, made-finds12}
+use Rattle.result.specs.Lent.{Lent}
+use Rattle.result.proofs.TablesLaws.{made-format, made-finds4, made-finds12}
 use Rattle.result.specs.Result.{at}
 use Rattle.result.proofs.SoundLaws.{making as making-of}
 use Rattle.answers.proofs.AnswersLaws.{Reads}

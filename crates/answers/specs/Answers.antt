@@ -8,8 +8,8 @@ use Rattle.number.specs.Limits.{recordsMax}
 use Rattle.listing.specs.Job.{Job}
 use Rattle.heads.specs.declared.Answer.{Answer}
 use Rattle.heads.specs.declared.Answer.the-variants.{Glyph, Refused}
-use Rattle.outcomes.specs.declared.Outcome.{Outcome}
-use Rattle.fresh.specs.Fresh.{listedOf}
+use Rattle.plan.specs.declared.Outcome.{Outcome}
+use Rattle.plan.specs.Fresh.{listedOf}
 use Rattle.result.specs.Result.{makes}
 
 -- the first record that made a table of that format decides: c's glyph among the listed pairs that its subtable maps, 0 where there is none

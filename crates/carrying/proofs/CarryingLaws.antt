@@ -5,8 +5,8 @@ use mathlib.Core.List.{List}
 use lib.ListN.{length}
 use Rattle.header.specs.Header.{recordCount}
 use Rattle.listing.specs.Job.{Job, job}
-use Rattle.outcomes.specs.declared.Outcome.{Outcome}
-use Rattle.fresh.specs.Notes.{Fronted}
+use Rattle.plan.specs.declared.Outcome.{Outcome}
+use Rattle.plan.specs.RecordNotes.{Fronted}
 use Rattle.plan.specs.Plan.{Prepared}
 use Rattle.plan.specs.Notes.{Endings}
 use Rattle.plan.proofs.PlanLaws.{prepared-again}

@@ -1,10 +1,10 @@
 // A job worked out in work room that it is given: its plan is made, and its result written where nothing refuses it.
-use outcomes::Outcome;
+use plan::Outcome;
 use promised::Answer;
 ghost use mathlib.Core.Path.{_≡_};
 ghost use Rattle.header.specs.Header.{recordCount};
 ghost use Rattle.listing.specs.Job.{job};
-ghost use Rattle.outcomes.specs.Outcomes.{Small};
+ghost use Rattle.plan.specs.Outcomes.{Small};
 ghost use Rattle.plan.specs.Plan.{plan, Prepared};
 ghost use Rattle.writing.specs.Writing.{Noted};
 ghost use Rattle.promised.specs.Cmap.{outputOf};

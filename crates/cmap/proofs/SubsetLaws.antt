@@ -3,8 +3,8 @@ use Prim.Native.Nat.{ℕ, _≤_}
 use mathlib.Core.Path.{_≡_}
 use mathlib.Core.List.{List}
 use Rattle.listing.specs.Job.{Job, job}
-use Rattle.outcomes.specs.declared.Outcome.{Outcome}
-use Rattle.outcomes.specs.Outcomes.{Small}
+use Rattle.plan.specs.declared.Outcome.{Outcome}
+use Rattle.plan.specs.Outcomes.{Small}
 use Rattle.plan.specs.Plan.{plan}
 use Rattle.result.specs.Refusal.{earlyRefusal}
 use Rattle.promised.specs.declared.Answer.{Answer}

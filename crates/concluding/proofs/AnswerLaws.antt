@@ -13,10 +13,10 @@ use Rattle.laws.proofs.ChoiceLaws.{by-pick, by-test}
 use Rattle.laws.proofs.FrontLaws.{sets-front}
 use Rattle.header.proofs.HeaderLaws.{accepted-of}
 use Rattle.listing.specs.Job.{Job}
-use Rattle.outcomes.specs.declared.Outcome.{Outcome}
+use Rattle.plan.specs.declared.Outcome.{Outcome}
 use Rattle.plan.specs.Plan.{plan}
-use Rattle.made.proofs.MadeLaws.{made-length}
-use Rattle.made.proofs.PlanLaws.{plan-made}
+use Rattle.result.proofs.MadeLaws.{made-length}
+use Rattle.result.proofs.PlanLaws.{plan-made}
 use Rattle.result.specs.Result.{written, resultOf, resultLength}
 use Rattle.result.specs.Refusal.{refusalOf, earlyRefusal, lateRefusal}
 use Rattle.result.proofs.RefusalLaws.{early-passed, refusal-early, refusal-late}

@@ -7,8 +7,8 @@ use lib.ListN.{length}
 use Rattle.header.specs.Header.{recordCount}
 use Rattle.header.proofs.HeaderLaws.{Accepted, accepted-of}
 use Rattle.listing.specs.Job.{Job, job}
-use Rattle.outcomes.specs.declared.Outcome.{Outcome}
-use Rattle.outcomes.specs.Outcomes.{Small}
+use Rattle.plan.specs.declared.Outcome.{Outcome}
+use Rattle.plan.specs.Outcomes.{Small}
 use Rattle.plan.specs.Plan.{plan}
 use Rattle.result.specs.Refusal.{earlyRefusal}
 use Rattle.result.proofs.RefusalLaws.{early-passed}

@@ -8,8 +8,8 @@ use Rattle.number.specs.Limits.{recordsMax}
 use Rattle.header.specs.Header.{recordCount}
 use Rattle.records.specs.Records.{Counted}
 use Rattle.listing.specs.Job.{Job}
-use Rattle.outcomes.specs.declared.Outcome.{Outcome}
-use Rattle.outcomes.specs.Outcomes.{Small}
+use Rattle.plan.specs.declared.Outcome.{Outcome}
+use Rattle.plan.specs.Outcomes.{Small}
 use Rattle.plan.specs.Plan.{plan}
 use Rattle.result.specs.Result.{written, resultLength}
 use Rattle.result.specs.Refusal.{earlyRefusal, lateRefusal}

@@ -1,5 +1,5 @@
 // The answer that a plan makes: refusals 8, 9 and 10, then length and record count of the result.
-use outcomes::Outcome;
+use plan::Outcome;
 use promised::Answer;
 ghost use mathlib.Core.Path.{_≡_};
 ghost use Prim.Native.Nat.{_≤_};

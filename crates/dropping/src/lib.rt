@@ -7,7 +7,7 @@ ghost use mathlib.Core.Bool.{not};
 ghost use Rattle.laws.specs.Select.{anyOf};
 ghost use Rattle.records.specs.Records.{Placed};
 ghost use Rattle.listing.specs.Listing.{maps, Beside};
-ghost use Rattle.covering.specs.Covered.{reachesAbove, someSet, flagsDiffer, siblingCovers, covered, Rooms};
+ghost use Rattle.plan.specs.Covered.{reachesAbove, someSet, flagsDiffer, siblingCovers, covered, Rooms};
 
 fn is_set(flag: u8) -> bool
     ensures { λ r. ⌜ r ≡ ltb 0 flag ⌝ }

@@ -8,8 +8,8 @@ use borrow.Author.Tests.{eq-eqb, ne-eqb, lt-ltb, le-ltb}
 use Rattle.header.specs.declared.EncodingRecord.{EncodingRecord}
 use Rattle.header.specs.Header.{recordCount, recordOf}
 use Rattle.records.specs.Records.{Placed, Counted}
-use Rattle.outcomes.specs.declared.Outcome.{Outcome}
-use Rattle.outcomes.specs.declared.Outcome.the-variants.{Served, Made}
+use Rattle.plan.specs.declared.Outcome.{Outcome}
+use Rattle.plan.specs.declared.Outcome.the-variants.{Served, Made}
 use Rattle.result.specs.Result.{at, offsetOf}
 use Rattle.result.specs.Refusal.{lateRefusal}
 use Rattle.promised.specs.declared.Fate.{Fate}

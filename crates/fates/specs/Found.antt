@@ -7,9 +7,9 @@ use Rattle.laws.specs.Choice.{pick}
 use Rattle.number.specs.Limits.{recordsMax}
 use Rattle.header.specs.Header.{recordCount}
 use Rattle.records.specs.Records.{Counted}
-use Rattle.outcomes.specs.declared.Outcome.{Outcome}
-use Rattle.outcomes.specs.declared.Outcome.the-variants.{Served}
-use Rattle.outcomes.specs.Outcomes.{Small}
+use Rattle.plan.specs.declared.Outcome.{Outcome}
+use Rattle.plan.specs.declared.Outcome.the-variants.{Served}
+use Rattle.plan.specs.Outcomes.{Small}
 use Rattle.result.specs.Result.{at}
 use Rattle.result.specs.Refusal.{lateRefusal}
 use Rattle.promised.specs.declared.Fate.{Fate}

@@ -1,10 +1,10 @@
 // What became of a record, by the plan.
-use outcomes::Outcome;
+use plan::Outcome;
 use promised::Fate;
 use promised::FateKind;
 ghost use mathlib.Core.Path.{_≡_};
 ghost use Prim.Native.Nat.{_<_};
-ghost use Rattle.outcomes.specs.Outcomes.{Small};
+ghost use Rattle.plan.specs.Outcomes.{Small};
 ghost use Rattle.result.specs.Result.{offsetOf};
 ghost use Rattle.promised.specs.declared.FateKind.the-variants.{WrittenAt};
 ghost use Rattle.promised.specs.Fates.{kindOf, noFate};

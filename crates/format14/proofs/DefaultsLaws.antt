@@ -24,13 +24,13 @@ use Rattle.number.proofs.StandsLaws.{be-stands}
 use Rattle.uvs.specs.Tables.{countsDefault}
 use Rattle.uvs.specs.Default.{coveredBy, newDefault}
 use Rattle.uvs.proofs.ReadLaws.{each-row, each-select}
-use Rattle.selector_tables.proofs.CoversLaws.{none-covers, stands-covers, bytes-cover}
-use Rattle.selector_tables.specs.Selectors.{Given, selectorRecords, varSelector, defaultOffset, keepsSelector, defaultTable, nonDefaultTable, keptRecords, there, one}
-use Rattle.selector_tables.proofs.ShapeLaws.{default-shape}
+use Rattle.format14.proofs.CoversLaws.{none-covers, stands-covers, bytes-cover}
+use Rattle.format14.specs.Selectors.{Given, selectorRecords, varSelector, defaultOffset, keepsSelector, defaultTable, nonDefaultTable, keptRecords, there, one}
+use Rattle.format14.proofs.ShapeLaws.{default-shape}
 use Rattle.format14.specs.Format14.{Row, rowOf, rowsOf, rows, used, tables, offsetOf, lengthOf, format14}
 use Rattle.format14.specs.Variants.{recordCovers, defaults}
 use Rattle.format14.proofs.OffsetsLaws.{leads, offset-none, offset-fits, counts-here, counts-none}
-use Rattle.selector_tables.proofs.SlotsLaws.{there-some, nil-eq}
+use Rattle.format14.proofs.SlotsLaws.{there-some, nil-eq}
 use Rattle.format14.proofs.VariantsLaws.{among-right, read-count, row-here, read-selector, apart}
 use Rattle.format14.proofs.WholeLaws.{row-size}
 

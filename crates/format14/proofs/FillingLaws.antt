@@ -9,11 +9,11 @@ use Rattle.laws.specs.Pieces.{concat}
 use Rattle.laws.specs.Lasts.{lasts, behind}
 use Rattle.laws.proofs.LastsLaws.{behind-le}
 use Rattle.laws.proofs.SetsCommLaws.{sets-before}
-use Rattle.selector_tables.specs.Selectors.{Given}
-use Rattle.selector_tables.specs.ByNumber.{slot}
-use Rattle.selector_tables.specs.Ends.{from, Written, Ends}
+use Rattle.format14.specs.Selectors.{Given}
+use Rattle.format14.specs.ByNumber.{slot}
+use Rattle.format14.specs.Ends.{from, Written, Ends}
 use Rattle.format14.specs.Parts.{Stops, endsAt}
-use Rattle.selector_tables.proofs.SlotsLaws.{written-turn, written-still, behind-turn}
+use Rattle.format14.proofs.SlotsLaws.{written-turn, written-still, behind-turn}
 
 -- those of the tables from k on that are written stand before `stop`
 pub record Filling (f : ℕ → List ℕ) (m stop : ℕ) (out₀ : List ℕ) (k : ℕ) (out : List ℕ) (tail : ℕ) : Type 0 where

@@ -7,3 +7,10 @@ pub mod OffsetsLaws
 pub mod VariantsLaws
 pub mod DefaultsLaws
 pub mod GivesLaws
+pub mod ByNumberLaws
+pub mod CoverLaws
+pub mod CoversLaws
+pub mod NewLaws
+pub mod SelectorRecordsLaws
+pub mod ShapeLaws
+pub mod SlotsLaws

@@ -15,11 +15,11 @@ use Rattle.laws.proofs.FlatLaws.{flat-map, flat-select}
 use Rattle.laws.proofs.LengthLaws.{length-map}
 use Rattle.laws.proofs.EitherLaws.{neither-left, neither-right}
 use Rattle.format14.specs.Format14.{Row, rowOf, rowsOf, rows, used, tables, written, offsetOf, rowBytes, lengthOf}
-use Rattle.selector_tables.specs.Ends.{from, Written, Ends}
-use Rattle.selector_tables.specs.Selectors.{Given, keepsSelector, defaultTable, nonDefaultTable, selectorRecords, there, one}
-use Rattle.selector_tables.specs.ByNumber.{slot}
-use Rattle.selector_tables.specs.SelectorRecords.{usedAt, usedRecords, offsetFor, recordBytes, recordAt}
-use Rattle.selector_tables.proofs.SlotsLaws.{there-some, there-none, behind-missing, behind-there, before-there}
+use Rattle.format14.specs.Ends.{from, Written, Ends}
+use Rattle.format14.specs.Selectors.{Given, keepsSelector, defaultTable, nonDefaultTable, selectorRecords, there, one}
+use Rattle.format14.specs.ByNumber.{slot}
+use Rattle.format14.specs.SelectorRecords.{usedAt, usedRecords, offsetFor, recordBytes, recordAt}
+use Rattle.format14.proofs.SlotsLaws.{there-some, there-none, behind-missing, behind-there, before-there}
 
 -- a row with neither table has none to give
 tables-used : (r : Row) (rs : List Row) → tables (pick (used r) (r ∷ rs) rs) ≡ one (r .defaultUVS) ++ (one (r .nonDefaultUVS) ++ tables rs)

@@ -13,12 +13,12 @@ use Rattle.laws.proofs.LengthLaws.{length-each, length-map, length-select}
 use Rattle.uvs.specs.Tables.{countsDefault, countsNonDefault}
 use Rattle.uvs.specs.Default.{newDefault}
 use Rattle.uvs.specs.NonDefault.{newNonDefault}
-use Rattle.selector_tables.specs.Selectors.{Given, selectorRecords, defaultOffset, nonDefaultOffset, keepsSelector, keptRecords, defaultTable, nonDefaultTable}
-use Rattle.selector_tables.specs.ByNumber.{slot, tableMax}
-use Rattle.selector_tables.proofs.ShapeLaws.{length-default, length-non-default}
-use Rattle.selector_tables.proofs.ByNumberLaws.{counts-fits}
-use Rattle.selector_tables.specs.Ends.{from}
-use Rattle.selector_tables.proofs.SlotsLaws.{from-missing, from-there}
+use Rattle.format14.specs.Selectors.{Given, selectorRecords, defaultOffset, nonDefaultOffset, keepsSelector, keptRecords, defaultTable, nonDefaultTable}
+use Rattle.format14.specs.ByNumber.{slot, tableMax}
+use Rattle.format14.proofs.ShapeLaws.{length-default, length-non-default}
+use Rattle.format14.proofs.ByNumberLaws.{counts-fits}
+use Rattle.format14.specs.Ends.{from}
+use Rattle.format14.proofs.SlotsLaws.{from-missing, from-there}
 use Rattle.format14.specs.Format14.{rowOf, used, rows, written, lengthOf}
 use Rattle.format14.proofs.RowsLaws.{written-rows}
 

@@ -29,12 +29,12 @@ use Rattle.uvs.specs.NonDefault.{mappings, newNonDefault}
 use Rattle.uvs.proofs.ReadLaws.{each-row, each-select}
 use Rattle.format14.specs.Gives.{glyphsFor, stayingGlyphs, newGlyph, Glyphs}
 use Rattle.format14.proofs.GivesLaws.{none-read, stands-mappings, new-mappings, new-gives, all-stay}
-use Rattle.selector_tables.specs.Selectors.{Given, selectorRecords, varSelector, nonDefaultOffset, keepsSelector, defaultTable, nonDefaultTable, keptRecords, there, one}
-use Rattle.selector_tables.proofs.ShapeLaws.{non-default-shape}
+use Rattle.format14.specs.Selectors.{Given, selectorRecords, varSelector, nonDefaultOffset, keepsSelector, defaultTable, nonDefaultTable, keptRecords, there, one}
+use Rattle.format14.proofs.ShapeLaws.{non-default-shape}
 use Rattle.format14.specs.Format14.{Row, rowOf, rowsOf, rows, used, tables, written, offsetOf, rowBytes, lengthOf, header, format14}
 use Rattle.format14.specs.Variants.{recordMappings, variants}
 use Rattle.format14.proofs.OffsetsLaws.{leads, offset-none, offset-fits, counts-here, counts-none}
-use Rattle.selector_tables.proofs.SlotsLaws.{there-some, nil-eq}
+use Rattle.format14.proofs.SlotsLaws.{there-some, nil-eq}
 use Rattle.format14.proofs.WholeLaws.{length-head, row-size}
 
 -- ---- lists

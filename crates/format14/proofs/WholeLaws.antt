@@ -17,14 +17,14 @@ use Rattle.laws.proofs.SelectLaws.{length-flat}
 use Rattle.laws.proofs.SetsLaws.{sets-append}
 use Rattle.number.specs.BigEndian.{be, Num}
 use Rattle.number.proofs.BigEndianLaws.{length-enc}
-use Rattle.selector_tables.specs.SelectorRecords.{usedRecords, recordAt, header14, Distances}
-use Rattle.selector_tables.proofs.SelectorRecordsLaws.{records-size}
-use Rattle.selector_tables.specs.Selectors.{Given, given, refused8}
-use Rattle.selector_tables.specs.ByNumber.{slot, Readable}
+use Rattle.format14.specs.SelectorRecords.{usedRecords, recordAt, header14, Distances}
+use Rattle.format14.proofs.SelectorRecordsLaws.{records-size}
+use Rattle.format14.specs.Selectors.{Given, given, refused8}
+use Rattle.format14.specs.ByNumber.{slot, Readable}
 use Rattle.format14.specs.declared.Outcome.{Outcome}
 use Rattle.format14.specs.declared.Outcome.the-variants.{Refused8, Empty, Length}
 use Rattle.format14.specs.Format14.{Row, rows, written, lengthOf, rowBytes, header, format14, offsetOf, sizeOf, outcome, lengthIn}
-use Rattle.selector_tables.specs.Ends.{Written, Ends, Total}
+use Rattle.format14.specs.Ends.{Written, Ends, Total}
 use Rattle.format14.specs.Parts.{outcomeFrom, endsAt}
 use Rattle.format14.proofs.RowsLaws.{written-rows, length-rows, flat-rows}
 use Rattle.format14.proofs.ShortLaws.{Modest, rows-short}

@@ -8,7 +8,7 @@ use Rattle.laws.specs.Pieces.{concat}
 use Rattle.laws.specs.Select.{select, flat}
 use Rattle.laws.specs.Lasts.{lasts, before}
 use Rattle.number.specs.BigEndian.{enc}
-use Rattle.selector_tables.specs.Selectors.{Given, selectorRecords, varSelector, keptRecords, defaultTable, nonDefaultTable, there, one, refused8}
+use Rattle.format14.specs.Selectors.{Given, selectorRecords, varSelector, keptRecords, defaultTable, nonDefaultTable, there, one, refused8}
 use Rattle.format14.specs.declared.Outcome.{Outcome}
 use Rattle.format14.specs.declared.Outcome.the-variants.{Refused8, Empty, Length}
 

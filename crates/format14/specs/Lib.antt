@@ -2,3 +2,8 @@ pub mod Format14
 pub mod Parts
 pub mod Variants
 pub mod Gives
+pub mod ByNumber
+pub mod Ends
+pub mod SelectorRecords
+pub mod Selectors
+pub mod Streams

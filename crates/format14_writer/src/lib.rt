@@ -6,9 +6,9 @@ ghost use lib.ListN.{length};
 ghost use lib.Seq.{sets};
 ghost use Rattle.laws.specs.Pieces.{concat};
 ghost use Rattle.number.specs.BigEndian.{be};
-ghost use Rattle.selector_tables.specs.Selectors.{given, refused8};
-ghost use Rattle.selector_tables.specs.ByNumber.{slot, Readable, All};
-ghost use Rattle.selector_tables.specs.Ends.{Written, Ends, Total};
+ghost use Rattle.format14.specs.Selectors.{given, refused8};
+ghost use Rattle.format14.specs.ByNumber.{slot, Readable, All};
+ghost use Rattle.format14.specs.Ends.{Written, Ends, Total};
 ghost use Rattle.format14.specs.Format14.{rows, lengthOf, format14, outcome, lengthIn};
 ghost use Rattle.format14.specs.Parts.{outcomeFrom, Stops, endsAt};
 

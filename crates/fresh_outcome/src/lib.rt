@@ -1,5 +1,5 @@
 // What becomes of a record that no earlier table serves.
-use outcomes::Outcome;
+use plan::Outcome;
 use source::Kind;
 ghost use mathlib.Core.Path.{_≡_};
 ghost use Prim.Native.Nat.{_+_, _*_, _<_, _≤_};
@@ -9,15 +9,15 @@ ghost use Rattle.listing.specs.Job.{job};
 ghost use Rattle.listing.specs.Listing.{listed};
 ghost use Rattle.format4.specs.Size.{sizeOf as sizeOf4};
 ghost use Rattle.format12.specs.Format12.{sizeOf as sizeOf12};
-ghost use Rattle.making.specs.Making.{Pairs, Leads};
-ghost use Rattle.selector_tables.specs.Selectors.{given};
-ghost use Rattle.selector_tables.specs.ByNumber.{slot, Readable};
-ghost use Rattle.selector_tables.specs.Ends.{Ends};
+ghost use Rattle.plan.specs.Making.{Pairs, Leads};
+ghost use Rattle.format14.specs.Selectors.{given};
+ghost use Rattle.format14.specs.ByNumber.{slot, Readable};
+ghost use Rattle.format14.specs.Ends.{Ends};
 ghost use Rattle.format14.specs.Format14.{lengthIn, outcome as outcome14};
-ghost use Rattle.outcomes.specs.declared.Outcome.the-variants.{Made};
-ghost use Rattle.outcomes.specs.Outcomes.{Short};
-ghost use Rattle.fresh.specs.Fresh.{by4, by14, fresh, Short4, Ready};
-ghost use Rattle.fresh.specs.Notes.{Fronted, Turned, Notebook};
+ghost use Rattle.plan.specs.declared.Outcome.the-variants.{Made};
+ghost use Rattle.plan.specs.Outcomes.{Short};
+ghost use Rattle.plan.specs.Fresh.{by4, by14, fresh, Short4, Ready};
+ghost use Rattle.plan.specs.RecordNotes.{Fronted, Turned, Notebook};
 
 fn of_size4(size: format4::Size) -> Outcome
     requires { ⌜ Short4 size ⌝ }

@@ -8,9 +8,9 @@ use lib.ListN.{getD}
 use Rattle.laws.proofs.SearchLaws.{Asking, asking-start, asking-on, asking-yes, asking-no}
 use Rattle.records.specs.Records.{Counted}
 use Rattle.records.proofs.RecordsLaws.{placed}
-use Rattle.outcomes.specs.declared.Outcome.{Outcome}
-use Rattle.outcomes.specs.declared.Outcome.the-variants.{NotRetained}
-use Rattle.outcomes.specs.Outcomes.{isBad}
+use Rattle.plan.specs.declared.Outcome.{Outcome}
+use Rattle.plan.specs.declared.Outcome.the-variants.{NotRetained}
+use Rattle.plan.specs.Outcomes.{isBad}
 use Rattle.plan.specs.Plan.{refused9, counts}
 use Rattle.late_refusals.specs.Inside.{Inside}
 

@@ -1,5 +1,5 @@
 // Refusals 8 and 9 of a plan.
-use outcomes::Outcome;
+use plan::Outcome;
 ghost use mathlib.Core.Path.{_≡_};
 ghost use Prim.Native.Nat.{_≤_};
 ghost use Rattle.laws.specs.Choice.{either};

@@ -1,8 +1,8 @@
 // How many records of a plan are written, with whose tables, and how long the tables are together.
-use outcomes::Outcome;
+use plan::Outcome;
 ghost use mathlib.Core.Path.{_≡_};
 ghost use Prim.Native.Nat.{_*_, _-_, _≤_};
-ghost use Rattle.outcomes.specs.Outcomes.{sizeOf, Small};
+ghost use Rattle.plan.specs.Outcomes.{sizeOf, Small};
 ghost use Rattle.result.specs.Result.{isWritten, makerOf, sizesFrom, written};
 
 pub fn is_written(o: Outcome) -> bool

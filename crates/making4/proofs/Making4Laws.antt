@@ -14,9 +14,9 @@ use Rattle.format4.specs.declared.Size.{Size as Size4}
 use Rattle.format4.specs.declared.Size.the-variants.{Empty, TooLong, Fits}
 use Rattle.format4.specs.Format4.{format4}
 use Rattle.format4.specs.Size.{sizeOf as sizeOf4, lengthOf as lengthOf4, Columns as Columns4}
-use Rattle.making.specs.Making.{Pairs, Leads, Fronts}
-use Rattle.making.proofs.BelowLaws.{listed-below}
-use Rattle.making.proofs.MakingLaws.{front-even, front-few, Holds, copied, lent, first, rest}
+use Rattle.plan.specs.Making.{Pairs, Leads, Fronts}
+use Rattle.plan.proofs.BelowLaws.{listed-below}
+use Rattle.plan.proofs.MakingLaws.{front-even, front-few, Holds, copied, lent, first, rest}
 use Rattle.making4.specs.Fits4.{Fits4}
 
 -- the source is bytes, as one fact

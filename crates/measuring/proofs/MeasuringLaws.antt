@@ -15,9 +15,9 @@ use Rattle.laws.proofs.EitherLaws.{either-none}
 use Rattle.laws.proofs.SelectLaws.{any-select}
 use Rattle.number.specs.BigEndian.{be}
 use Rattle.uvs.specs.Checksum.{checksum}
-use Rattle.selector_tables.specs.Selectors.{Given, given, keepsSelector, badRecord, badKept, refused8}
-use Rattle.selector_tables.specs.ByNumber.{slot, badSlot, Source, Readable, All, Size, Lengths, Sums, tableMax}
-use Rattle.selector_tables.proofs.ByNumberLaws.{slot-like, bad-like}
+use Rattle.format14.specs.Selectors.{Given, given, keepsSelector, badRecord, badKept, refused8}
+use Rattle.format14.specs.ByNumber.{slot, badSlot, Source, Readable, All, Size, Lengths, Sums, tableMax}
+use Rattle.format14.proofs.ByNumberLaws.{slot-like, bad-like}
 use Rattle.measuring.specs.Measuring.{Sources, Earlier, Refused}
 
 -- ---- refusal 8

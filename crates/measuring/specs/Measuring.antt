@@ -5,8 +5,8 @@ use mathlib.Core.List.{List}
 use mathlib.Core.Bool.{Bool}
 use lib.ListN.{length, getD}
 use Rattle.laws.specs.Search.{some}
-use Rattle.selector_tables.specs.ByNumber.{badSlot, Source}
-use Rattle.selector_tables.specs.Selectors.{Given}
+use Rattle.format14.specs.ByNumber.{badSlot, Source}
+use Rattle.format14.specs.Selectors.{Given}
 
 -- where the sources of t tables stand
 pub record Sources (xs : List ℕ) (at len : ℕ) (kept : List ℕ) (t : ℕ) (ps : List ℕ) : Type 0 where

@@ -3,8 +3,8 @@ ghost use mathlib.Core.Path.{_≡_};
 ghost use Prim.Native.Nat.{_+_, _%_, _≤_};
 ghost use lib.ListN.{length};
 ghost use Rattle.uvs.specs.Checksum.{checksum};
-ghost use Rattle.selector_tables.specs.Selectors.{given, refused8};
-ghost use Rattle.selector_tables.specs.ByNumber.{slot, Source, Readable, Numbered, All, Size, Lengths, Sums};
+ghost use Rattle.format14.specs.Selectors.{given, refused8};
+ghost use Rattle.format14.specs.ByNumber.{slot, Source, Readable, Numbered, All, Size, Lengths, Sums};
 ghost use Rattle.measuring.specs.Measuring.{Sources, Earlier, Refused};
 
 // The last table before t, of t's sort, whose source stands at `off`; t if there is none.

@@ -1,10 +1,10 @@
 // What became of records: which earlier table serves a record, and which earlier record tells of it.
-use outcomes::Outcome;
+use plan::Outcome;
 ghost use mathlib.Core.Path.{_≡_};
 ghost use Prim.Native.Nat.{_<_};
 ghost use Rattle.records.specs.Records.{Placed};
-ghost use Rattle.outcomes.specs.Outcomes.{isMade, isBad, serves, server, Two};
-ghost use Rattle.outcomes.specs.Twins.{isCovered, cameToNothing, isTwin, twin, isSpent, spent};
+ghost use Rattle.plan.specs.Outcomes.{isMade, isBad, serves, server, Two};
+ghost use Rattle.plan.specs.Twins.{isCovered, cameToNothing, isTwin, twin, isSpent, spent};
 
 pub fn is_made(outcome: Outcome) -> bool
     ensures { λ r. ⌜ r ≡ isMade outcome ⌝ }

@@ -14,9 +14,9 @@ use Rattle.laws.proofs.LastsLaws.{eqList-length}
 use Rattle.number.specs.BigEndian.{be}
 use Rattle.uvs.specs.Checksum.{checksum}
 use Rattle.uvs.proofs.ChecksumLaws.{sums-apart}
-use Rattle.selector_tables.specs.Selectors.{Given, given}
-use Rattle.selector_tables.specs.ByNumber.{slot, Readable, All, Lengths, Sums, Both}
-use Rattle.selector_tables.proofs.ByNumberLaws.{same-unlike}
+use Rattle.format14.specs.Selectors.{Given, given}
+use Rattle.format14.specs.ByNumber.{slot, Readable, All, Lengths, Sums, Both}
+use Rattle.format14.proofs.ByNumberLaws.{same-unlike}
 
 both-holds : (a b : Bool) → a ≡ true → b ≡ true → both a b ≡ true
 both-holds true b p q = q

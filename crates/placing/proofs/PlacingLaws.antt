@@ -14,9 +14,9 @@ use Rattle.laws.proofs.ChoiceLaws.{by-leb, if-lt, else-lt}
 use Rattle.laws.proofs.FirstLaws.{first-from, first-holds, first-none}
 use Rattle.laws.proofs.EqListLaws.{eq-true}
 use Rattle.laws.proofs.LastsLaws.{length-concat}
-use Rattle.selector_tables.specs.ByNumber.{tableMax, Readable, All, Lengths}
-use Rattle.selector_tables.specs.Ends.{from, Written, laterEqual, Ends, Total}
-use Rattle.selector_tables.proofs.SlotsLaws.{from-apart, written-missing, written-again, written-new, behind-missing, behind-new, among-from}
+use Rattle.format14.specs.ByNumber.{tableMax, Readable, All, Lengths}
+use Rattle.format14.specs.Ends.{from, Written, laterEqual, Ends, Total}
+use Rattle.format14.proofs.SlotsLaws.{from-apart, written-missing, written-again, written-new, behind-missing, behind-new, among-from}
 
 -- the tables from k on have their distances, and tail is the length of those written
 pub record Placing (f : ℕ → List ℕ) (m k : ℕ) (ends : List ℕ) (tail : ℕ) : Type 0 where

@@ -4,9 +4,9 @@ ghost use Prim.Native.Nat.{_+_, _*_, _<_, _≤_};
 ghost use lib.ListN.{length, getD};
 ghost use Rattle.laws.specs.Select.{eqList};
 ghost use Rattle.number.specs.BigEndian.{be};
-ghost use Rattle.selector_tables.specs.Selectors.{given};
-ghost use Rattle.selector_tables.specs.ByNumber.{slot, Readable, Numbered, All, Lengths, Sums};
-ghost use Rattle.selector_tables.specs.Ends.{laterEqual, Ends, Total};
+ghost use Rattle.format14.specs.Selectors.{given};
+ghost use Rattle.format14.specs.ByNumber.{slot, Readable, Numbered, All, Lengths, Sums};
+ghost use Rattle.format14.specs.Ends.{laterEqual, Ends, Total};
 
 // Whether tables t and j, the first of them there, are equal. Lengths and checksums rule most out. The flags are work room.
 fn equal_tables(

@@ -3,3 +3,13 @@ pub mod PlanLaws
 pub mod RowLaws
 pub mod NotesLaws
 pub mod TwinLaws
+pub mod ServesLaws
+pub mod SizeLaws
+pub mod TwinsLaws
+pub mod CoveredLaws
+pub mod BelowLaws
+pub mod MakingLaws
+pub mod FreshLaws
+pub mod KindLaws
+pub mod RecordNotesLaws
+pub mod SizesLaws

@@ -16,11 +16,11 @@ use Rattle.header.specs.Header.{offsetOf}
 use Rattle.source.specs.Kind.{formatOf}
 use Rattle.records.specs.Records.{leadsTo}
 use Rattle.listing.specs.Job.{Job, job}
-use Rattle.outcomes.specs.declared.Outcome.{Outcome}
-use Rattle.outcomes.specs.declared.Outcome.the-variants.{NotRetained, Skipped, Empty, TooLong, Covered, BadMapping, Served, Made}
-use Rattle.outcomes.specs.Outcomes.{isMade, serves, server}
-use Rattle.outcomes.specs.Twins.{cameToNothing, isSpent, spent}
-use Rattle.fresh.specs.Notes.{Fronted, Ended, Turned, Notebook}
+use Rattle.plan.specs.declared.Outcome.{Outcome}
+use Rattle.plan.specs.declared.Outcome.the-variants.{NotRetained, Skipped, Empty, TooLong, Covered, BadMapping, Served, Made}
+use Rattle.plan.specs.Outcomes.{isMade, serves, server}
+use Rattle.plan.specs.Twins.{cameToNothing, isSpent, spent}
+use Rattle.plan.specs.RecordNotes.{Fronted, Ended, Turned, Notebook}
 use Rattle.plan.specs.Notes.{Stays, Endings}
 
 -- ---- what makes no table notes nothing

@@ -6,12 +6,12 @@ use mathlib.Core.Bool.{Bool, true, false}
 use lib.ListN.{length}
 use borrow.Author.Tests.{lt-ltb, le-ltb}
 use Rattle.records.specs.Records.{retained}
-use Rattle.covering.specs.Covered.{covered}
+use Rattle.plan.specs.Covered.{covered}
 use Rattle.listing.specs.Job.{Job, job}
-use Rattle.outcomes.specs.declared.Outcome.{Outcome}
-use Rattle.outcomes.specs.declared.Outcome.the-variants.{NotRetained, Covered, Served}
-use Rattle.outcomes.specs.Outcomes.{server}
-use Rattle.fresh.specs.Fresh.{fresh}
+use Rattle.plan.specs.declared.Outcome.{Outcome}
+use Rattle.plan.specs.declared.Outcome.the-variants.{NotRetained, Covered, Served}
+use Rattle.plan.specs.Outcomes.{server}
+use Rattle.plan.specs.Fresh.{fresh}
 use Rattle.plan.specs.Plan.{retainedOutcome, outcomeOf}
 
 module _ (xs cs gs kept map requested : List ℕ) (os : List Outcome) (k : ℕ) (t : Bool) where

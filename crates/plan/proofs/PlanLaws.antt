@@ -8,13 +8,13 @@ use lib.ListN.{length, getD, set, replicate, length-set}
 use Rattle.laws.proofs.ReadLaws.{getD-row}
 use Rattle.header.specs.Header.{recordCount}
 use Rattle.records.proofs.RecordsLaws.{placed}
-use Rattle.covering.specs.Covered.{Rooms}
+use Rattle.plan.specs.Covered.{Rooms}
 use Rattle.listing.specs.Job.{Job, glyphCount}
-use Rattle.outcomes.specs.declared.Outcome.{Outcome}
-use Rattle.outcomes.specs.declared.Outcome.the-variants.{NotRetained}
-use Rattle.outcomes.specs.Outcomes.{Short, Small}
-use Rattle.fresh.specs.Fresh.{Ready}
-use Rattle.fresh.specs.Notes.{Fronted, Notebook}
+use Rattle.plan.specs.declared.Outcome.{Outcome}
+use Rattle.plan.specs.declared.Outcome.the-variants.{NotRetained}
+use Rattle.plan.specs.Outcomes.{Short, Small}
+use Rattle.plan.specs.Fresh.{Ready}
+use Rattle.plan.specs.RecordNotes.{Fronted, Notebook}
 use Rattle.plan.specs.Plan.{outcomeOf, outcomes, plan, Prepared}
 use Rattle.plan.specs.Notes.{Stays, Endings}
 use Rattle.plan.specs.Earlier.{Earlier}

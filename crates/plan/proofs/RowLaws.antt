@@ -15,11 +15,11 @@ use Rattle.laws.proofs.ReadLaws.{getD-row}
 use Rattle.number.specs.Limits.{recordsMax}
 use Rattle.records.specs.Records.{retained}
 use Rattle.listing.specs.Job.{Job, glyphCount}
-use Rattle.covering.specs.Covered.{covered}
-use Rattle.outcomes.specs.declared.Outcome.{Outcome}
-use Rattle.outcomes.specs.declared.Outcome.the-variants.{NotRetained, Covered, Served}
-use Rattle.outcomes.specs.Outcomes.{server as earliest, serves}
-use Rattle.fresh.specs.Fresh.{fresh}
+use Rattle.plan.specs.Covered.{covered}
+use Rattle.plan.specs.declared.Outcome.{Outcome}
+use Rattle.plan.specs.declared.Outcome.the-variants.{NotRetained, Covered, Served}
+use Rattle.plan.specs.Outcomes.{server as earliest, serves}
+use Rattle.plan.specs.Fresh.{fresh}
 use Rattle.plan.specs.Plan.{retainedOutcome, outcomeOf, outcomes}
 
 -- ---- the row of outcomes

@@ -13,18 +13,18 @@ use Rattle.laws.proofs.ChoiceLaws.{both-left, both-right, false-true}
 use Rattle.laws.proofs.FirstLaws.{first-ext, first-holds}
 use Rattle.header.specs.Header.{recordCount, platformOf, encodingOf, offsetOf}
 use Rattle.records.specs.Records.{leadsTo, bmpPair, fullPair, retained}
-use Rattle.covering.specs.Sibling.{isSibling, firstSibling}
-use Rattle.covering.specs.Covered.{reachesAbove, mapAlike, siblingCovers, covered}
+use Rattle.plan.specs.Sibling.{isSibling, firstSibling}
+use Rattle.plan.specs.Covered.{reachesAbove, mapAlike, siblingCovers, covered}
 use Rattle.listing.specs.Job.{Job, job, glyphCount}
 use Rattle.listing.specs.Listing.{maps}
-use Rattle.outcomes.specs.declared.Outcome.{Outcome}
-use Rattle.outcomes.specs.declared.Outcome.the-variants.{NotRetained}
-use Rattle.outcomes.specs.Outcomes.{Short}
-use Rattle.fresh.specs.Fresh.{fresh}
+use Rattle.plan.specs.declared.Outcome.{Outcome}
+use Rattle.plan.specs.declared.Outcome.the-variants.{NotRetained}
+use Rattle.plan.specs.Outcomes.{Short}
+use Rattle.plan.specs.Fresh.{fresh}
 use Rattle.plan.specs.Plan.{outcomes}
-use Rattle.outcomes.specs.Twins.{isCovered, cameToNothing, isTwin, twin, isSpent, spent}
+use Rattle.plan.specs.Twins.{isCovered, cameToNothing, isTwin, twin, isSpent, spent}
 use Rattle.plan.specs.Earlier.{Earlier, Tells}
-use Rattle.fresh.proofs.KindLaws.{fresh-never, leads-alike, maps-alike, fresh-alike}
+use Rattle.plan.proofs.KindLaws.{fresh-never, leads-alike, maps-alike, fresh-alike}
 use Rattle.plan.proofs.RowLaws.{outcome-at, by-outcome, covers}
 
 -- ---- what depends on the pair and the offset alone

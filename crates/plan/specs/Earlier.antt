@@ -7,11 +7,11 @@ use lib.ListN.{getD}
 use Rattle.number.specs.Limits.{recordsMax}
 use Rattle.records.specs.Records.{retained}
 use Rattle.listing.specs.Job.{Job}
-use Rattle.covering.specs.Covered.{covered}
-use Rattle.outcomes.specs.declared.Outcome.{Outcome}
-use Rattle.outcomes.specs.declared.Outcome.the-variants.{NotRetained}
-use Rattle.outcomes.specs.Outcomes.{Small}
-use Rattle.outcomes.specs.Twins.{isCovered}
+use Rattle.plan.specs.Covered.{covered}
+use Rattle.plan.specs.declared.Outcome.{Outcome}
+use Rattle.plan.specs.declared.Outcome.the-variants.{NotRetained}
+use Rattle.plan.specs.Outcomes.{Small}
+use Rattle.plan.specs.Twins.{isCovered}
 use Rattle.plan.specs.Plan.{outcomes}
 
 -- os holds what became of the records before k

@@ -1,3 +1,11 @@
 pub mod Plan
 pub mod Earlier
 pub mod Notes
+pub mod Outcomes
+pub mod Twins
+pub mod Covered
+pub mod Sibling
+pub mod Front
+pub mod Making
+pub mod Fresh
+pub mod RecordNotes

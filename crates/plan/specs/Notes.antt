@@ -5,10 +5,10 @@ use mathlib.Core.List.{List}
 use mathlib.Core.Bool.{true}
 use lib.ListN.{getD}
 use Rattle.listing.specs.Job.{Job}
-use Rattle.outcomes.specs.declared.Outcome.{Outcome}
-use Rattle.outcomes.specs.declared.Outcome.the-variants.{NotRetained}
-use Rattle.outcomes.specs.Outcomes.{isMade}
-use Rattle.fresh.specs.Notes.{Ended}
+use Rattle.plan.specs.declared.Outcome.{Outcome}
+use Rattle.plan.specs.declared.Outcome.the-variants.{NotRetained}
+use Rattle.plan.specs.Outcomes.{isMade}
+use Rattle.plan.specs.RecordNotes.{Ended}
 
 -- record k has come to o: its ends are noted, and what was noted of tables made before stays
 pub record Stays (j : Job) (os : List Outcome) (k : ℕ) (o : Outcome) (before after : List ℕ) : Type 0 where

@@ -1,6 +1,6 @@
 -- What becomes of each record, and what refusals 8 and 9 ask of it (docs/01-rules.md, "Records" and "Numbers of refusal").
--- What an outcome says, and which earlier table serves a record: outcomes/specs/Outcomes.antt. The table a record makes, and what becomes of
--- one that no earlier table serves: fresh/specs/Fresh.antt.
+-- What an outcome says, and which earlier table serves a record: Outcomes.antt. The table a record makes, and what becomes of one that no
+-- earlier table serves: Fresh.antt.
 use Prim.Native.Nat.{ℕ, zero, suc, _≤_, _<_}
 use mathlib.Core.List.{List}
 use mathlib.Core.Bool.{Bool, not}
@@ -14,12 +14,12 @@ use Rattle.header.specs.Header.{recordCount}
 use Rattle.records.specs.Records.{leadsToFormat, retained, Counted}
 use Rattle.listing.specs.Job.{Job, glyphCount}
 use Rattle.listing.specs.Listing.{Columns}
-use Rattle.covering.specs.Covered.{covered}
-use Rattle.selector_tables.specs.Streams.{CodePoints}
-use Rattle.outcomes.specs.declared.Outcome.{Outcome}
-use Rattle.outcomes.specs.declared.Outcome.the-variants.{NotRetained, Covered, Served}
-use Rattle.outcomes.specs.Outcomes.{isMade, isBad, server}
-use Rattle.fresh.specs.Fresh.{fresh}
+use Rattle.plan.specs.Covered.{covered}
+use Rattle.format14.specs.Streams.{CodePoints}
+use Rattle.plan.specs.declared.Outcome.{Outcome}
+use Rattle.plan.specs.declared.Outcome.the-variants.{NotRetained, Covered, Served}
+use Rattle.plan.specs.Outcomes.{isMade, isBad, server}
+use Rattle.plan.specs.Fresh.{fresh}
 
 -- ---- the walk in source order
 

@@ -1,16 +1,16 @@
 // What becomes of each record of a source: a walk in source order, with what earlier records came to.
-use outcomes::Outcome;
+use plan::Outcome;
 ghost use mathlib.Core.Path.{_≡_};
 ghost use mathlib.Core.Bool.{true};
 ghost use Prim.Native.Nat.{_≤_};
 ghost use lib.ListN.{length};
-ghost use Rattle.covering.specs.Covered.{covered, Rooms};
+ghost use Rattle.plan.specs.Covered.{covered, Rooms};
 ghost use Rattle.listing.specs.Job.{job};
 ghost use Rattle.header.specs.Header.{recordCount};
 ghost use Rattle.records.specs.Records.{retained};
-ghost use Rattle.outcomes.specs.Outcomes.{Short, Small};
-ghost use Rattle.fresh.specs.Fresh.{fresh, Ready};
-ghost use Rattle.fresh.specs.Notes.{Fronted, Turned, Notebook};
+ghost use Rattle.plan.specs.Outcomes.{Short, Small};
+ghost use Rattle.plan.specs.Fresh.{fresh, Ready};
+ghost use Rattle.plan.specs.RecordNotes.{Fronted, Turned, Notebook};
 ghost use Rattle.plan.specs.Plan.{retainedOutcome, outcomeOf, plan, Prepared};
 ghost use Rattle.plan.specs.Notes.{Stays, Endings};
 ghost use Rattle.plan.specs.Earlier.{Earlier, Tells};

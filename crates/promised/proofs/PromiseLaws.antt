@@ -16,9 +16,9 @@ use Rattle.number.specs.Limits.{recordsMax}
 use Rattle.header.specs.Header.{recordCount}
 use Rattle.header.proofs.HeaderLaws.{accepted-of}
 use Rattle.listing.specs.Job.{Job}
-use Rattle.outcomes.specs.declared.Outcome.{Outcome}
-use Rattle.outcomes.specs.declared.Outcome.the-variants.{NotRetained, Skipped, Empty, TooLong, Covered, BadMapping, Served, Made}
-use Rattle.outcomes.specs.Outcomes.{isBad}
+use Rattle.plan.specs.declared.Outcome.{Outcome}
+use Rattle.plan.specs.declared.Outcome.the-variants.{NotRetained, Skipped, Empty, TooLong, Covered, BadMapping, Served, Made}
+use Rattle.plan.specs.Outcomes.{isBad}
 use Rattle.plan.specs.Plan.{plan, refused8}
 use Rattle.result.specs.Result.{at, written}
 use Rattle.result.specs.Refusal.{Case, firstOf, refusalOf, rises}

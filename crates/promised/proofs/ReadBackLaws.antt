@@ -19,15 +19,15 @@ use Rattle.source.specs.Kind.{kindAt, formatOf}
 use Rattle.header.proofs.HeaderLaws.{accepted-of, gives-records}
 use Rattle.records.specs.Records.{leadsTo}
 use Rattle.listing.specs.Job.{Job}
-use Rattle.outcomes.specs.declared.Outcome.{Outcome}
-use Rattle.outcomes.specs.declared.Outcome.the-variants.{NotRetained, Skipped, Empty, TooLong, Covered, BadMapping, Served, Made}
-use Rattle.outcomes.specs.Outcomes.{sizeOf}
-use Rattle.fresh.specs.Fresh.{tableOf}
+use Rattle.plan.specs.declared.Outcome.{Outcome}
+use Rattle.plan.specs.declared.Outcome.the-variants.{NotRetained, Skipped, Empty, TooLong, Covered, BadMapping, Served, Made}
+use Rattle.plan.specs.Outcomes.{sizeOf}
+use Rattle.plan.specs.Fresh.{tableOf}
 use Rattle.plan.specs.Plan.{plan}
-use Rattle.made.specs.Lent.{Lent}
-use Rattle.made.proofs.LentLaws.{lent}
-use Rattle.made.proofs.TablesLaws.{made-format}
-use Rattle.made.proofs.PlanLaws.{plan-past}
+use Rattle.result.specs.Lent.{Lent}
+use Rattle.result.proofs.LentLaws.{lent}
+use Rattle.result.proofs.TablesLaws.{made-format}
+use Rattle.result.proofs.PlanLaws.{plan-past}
 use Rattle.result.specs.Result.{isWritten, makerOf, at, countFrom, written, offsetOf}
 use Rattle.result.specs.Refusal.{refusalOf}
 use Rattle.result.proofs.CountLaws.{count-one, count-find}

@@ -14,8 +14,8 @@ use Rattle.number.proofs.BigEndianLaws.{length-enc, pow-pos}
 use Rattle.header.specs.declared.EncodingRecord.{EncodingRecord}
 use Rattle.header.specs.Header.{recordOf}
 use Rattle.listing.specs.Job.{Job}
-use Rattle.outcomes.specs.declared.Outcome.{Outcome}
-use Rattle.outcomes.specs.declared.Outcome.the-variants.{NotRetained}
+use Rattle.plan.specs.declared.Outcome.{Outcome}
+use Rattle.plan.specs.declared.Outcome.the-variants.{NotRetained}
 use Rattle.result.specs.Result.{isWritten, makerOf, at, countFrom, offsetOf, recordBytes, recordsFrom}
 use Rattle.result.proofs.LengthLaws.{length-record}
 use Rattle.record_writer.specs.Parts.{sourced, Recorded, Laid}

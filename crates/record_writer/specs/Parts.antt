@@ -6,7 +6,7 @@ use mathlib.Core.Bool.{true}
 use Rattle.number.specs.Limits.{recordsMax}
 use Rattle.records.specs.Records.{Placed}
 use Rattle.listing.specs.Job.{Job, job}
-use Rattle.outcomes.specs.declared.Outcome.{Outcome}
+use Rattle.plan.specs.declared.Outcome.{Outcome}
 use Rattle.result.specs.Result.{isWritten, makerOf, at}
 use Rattle.table_places.specs.Counts.{Counts}
 

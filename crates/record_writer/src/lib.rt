@@ -1,5 +1,5 @@
 // Header and records of a result.
-use outcomes::Outcome;
+use plan::Outcome;
 ghost use mathlib.Core.Path.{_≡_};
 ghost use mathlib.Core.List.{_++_};
 ghost use Prim.Native.Nat.{_+_, _*_, _<_, _≤_};

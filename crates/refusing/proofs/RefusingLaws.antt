@@ -14,8 +14,8 @@ use Rattle.records.specs.Records.{Counted}
 use Rattle.checks.proofs.SizesLaws.{sizes, codes-rise, kept-rise, kept-low, requested-rise}
 use Rattle.listing.specs.Job.{Job, glyphCount}
 use Rattle.plan.specs.Plan.{Prepared}
-use Rattle.made.specs.Lent.{Lent}
-use Rattle.made.proofs.LentLaws.{lent}
+use Rattle.result.specs.Lent.{Lent}
+use Rattle.result.proofs.LentLaws.{lent}
 use Rattle.result.specs.Refusal.{listRefusals, sourceRefusals, earlyRefusal, rises}
 use Rattle.result.proofs.RefusalLaws.{first-of, early-passed}
 use Rattle.refusing.specs.Refusing.{listRefusal, sourceRefusal, formatRefusal}

@@ -6,8 +6,8 @@ use mathlib.Core.Bool.{true, false}
 use native.Mathlib.Nat.{zero-add, add-zero}
 use native.Mathlib.Omega.{arith}
 use Rattle.laws.proofs.ChoiceLaws.{by-pick, by-test}
-use Rattle.outcomes.specs.declared.Outcome.{Outcome}
-use Rattle.outcomes.specs.Outcomes.{sizeOf}
+use Rattle.plan.specs.declared.Outcome.{Outcome}
+use Rattle.plan.specs.Outcomes.{sizeOf}
 use Rattle.result.specs.Result.{isWritten, at, countFrom, sizesFrom}
 
 -- the place of the i-th written record among the n records from k on

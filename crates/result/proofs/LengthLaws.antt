@@ -10,11 +10,11 @@ use Rattle.laws.proofs.ChoiceLaws.{by-test}
 use Rattle.number.specs.BigEndian.{enc}
 use Rattle.number.proofs.BigEndianLaws.{length-enc}
 use Rattle.listing.specs.Job.{Job}
-use Rattle.outcomes.specs.declared.Outcome.{Outcome}
-use Rattle.outcomes.specs.declared.Outcome.the-variants.{Made}
-use Rattle.outcomes.specs.Outcomes.{isMade, sizeOf}
-use Rattle.fresh.specs.Fresh.{tableOf}
-use Rattle.outcomes.proofs.SizeLaws.{made-size, unmade-size}
+use Rattle.plan.specs.declared.Outcome.{Outcome}
+use Rattle.plan.specs.declared.Outcome.the-variants.{Made}
+use Rattle.plan.specs.Outcomes.{isMade, sizeOf}
+use Rattle.plan.specs.Fresh.{tableOf}
+use Rattle.plan.proofs.SizeLaws.{made-size, unmade-size}
 use Rattle.result.specs.Result.{isWritten, at, countFrom, sizesFrom, written, recordBytes, recordsFrom, tablesBelow, resultOf, resultLength}
 use Rattle.result.proofs.CountLaws.{sizes-snoc}
 

@@ -3,3 +3,9 @@ pub mod PlacesLaws
 pub mod RefusalLaws
 pub mod SoundLaws
 pub mod LengthLaws
+pub mod Format14Laws
+pub mod LentLaws
+pub mod ListedLaws
+pub mod MadeLaws
+pub mod PlanLaws
+pub mod TablesLaws

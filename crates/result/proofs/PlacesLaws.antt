@@ -17,11 +17,11 @@ use Rattle.number.proofs.StandsLaws.{be-stands-enc}
 use Rattle.source.specs.Kind.{formatOf}
 use Rattle.records.specs.Records.{leadsTo}
 use Rattle.listing.specs.Job.{Job}
-use Rattle.outcomes.specs.declared.Outcome.{Outcome}
-use Rattle.outcomes.specs.declared.Outcome.the-variants.{NotRetained, Skipped, Empty, TooLong, Covered, BadMapping, Served, Made}
-use Rattle.outcomes.specs.Outcomes.{isMade, sizeOf}
-use Rattle.fresh.specs.Fresh.{tableOf}
-use Rattle.outcomes.proofs.SizeLaws.{unmade-size}
+use Rattle.plan.specs.declared.Outcome.{Outcome}
+use Rattle.plan.specs.declared.Outcome.the-variants.{NotRetained, Skipped, Empty, TooLong, Covered, BadMapping, Served, Made}
+use Rattle.plan.specs.Outcomes.{isMade, sizeOf}
+use Rattle.plan.specs.Fresh.{tableOf}
+use Rattle.plan.proofs.SizeLaws.{unmade-size}
 use Rattle.result.specs.Result.{isWritten, makerOf, at, countFrom, sizesFrom, written, offsetOf, recordBytes, recordsFrom, tablesBelow, resultOf, resultLength}
 use Rattle.result.proofs.CountLaws.{Ith, count-few, sizes-split, sizes-snoc}
 use Rattle.result.proofs.LengthLaws.{size-made, length-record, length-records, length-result}

@@ -19,16 +19,16 @@ use Rattle.records.specs.Records.{leadsTo, leadsToFormat}
 use Rattle.listing.specs.Job.{Job}
 use Rattle.format12_lookup.proofs.BytesLaws.{groups-few}
 use Rattle.format12_lookup.proofs.Format12KindLaws.{length-is}
-use Rattle.outcomes.specs.declared.Outcome.the-variants.{Made}
-use Rattle.outcomes.specs.Outcomes.{isMade, sizeOf}
-use Rattle.fresh.specs.Fresh.{listedOf, fresh}
+use Rattle.plan.specs.declared.Outcome.the-variants.{Made}
+use Rattle.plan.specs.Outcomes.{isMade, sizeOf}
+use Rattle.plan.specs.Fresh.{listedOf, fresh}
 use Rattle.plan.specs.Plan.{plan}
-use Rattle.outcomes.proofs.SizeLaws.{made-size, unmade-size}
-use Rattle.made.specs.Lent.{Lent}
-use Rattle.made.proofs.ListedLaws.{above-listed}
-use Rattle.made.proofs.MadeLaws.{made-length, by-format, made-written4, table-is}
-use Rattle.made.proofs.TablesLaws.{made-short}
-use Rattle.made.proofs.PlanLaws.{Making, plan-past, plan-made, plan-served}
+use Rattle.plan.proofs.SizeLaws.{made-size, unmade-size}
+use Rattle.result.specs.Lent.{Lent}
+use Rattle.result.proofs.ListedLaws.{above-listed}
+use Rattle.result.proofs.MadeLaws.{made-length, by-format, made-written4, table-is}
+use Rattle.result.proofs.TablesLaws.{made-short}
+use Rattle.result.proofs.PlanLaws.{Making, plan-past, plan-made, plan-served}
 use Rattle.result.specs.Result.{at, makes, sizesFrom}
 use Rattle.result.proofs.CountLaws.{count-few, sizes-snoc}
 use Rattle.result.proofs.PlacesLaws.{Sound}

@@ -1,2 +1,3 @@
 pub mod Refusal
 pub mod Result
+pub mod Lent

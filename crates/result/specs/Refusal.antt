@@ -10,7 +10,7 @@ use Rattle.header.specs.Header.{refused5}
 use Rattle.records.specs.Records.{refused6, refused7}
 use Rattle.checks.specs.Checks.{badSizes, badPairs, badKept, badRequested}
 use Rattle.listing.specs.Job.{Job, glyphCount}
-use Rattle.outcomes.specs.declared.Outcome.{Outcome}
+use Rattle.plan.specs.declared.Outcome.{Outcome}
 use Rattle.plan.specs.Plan.{plan, refused8, refused9}
 
 -- a number of refusal and its condition

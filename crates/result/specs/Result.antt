@@ -9,10 +9,10 @@ use Rattle.number.specs.Limits.{recordsMax}
 use Rattle.header.specs.Header.{platformOf, encodingOf}
 use Rattle.records.specs.Records.{leadsToFormat}
 use Rattle.listing.specs.Job.{Job}
-use Rattle.outcomes.specs.declared.Outcome.{Outcome}
-use Rattle.outcomes.specs.declared.Outcome.the-variants.{NotRetained, Skipped, Empty, TooLong, Covered, BadMapping, Served, Made}
-use Rattle.outcomes.specs.Outcomes.{isMade, sizeOf}
-use Rattle.fresh.specs.Fresh.{tableOf}
+use Rattle.plan.specs.declared.Outcome.{Outcome}
+use Rattle.plan.specs.declared.Outcome.the-variants.{NotRetained, Skipped, Empty, TooLong, Covered, BadMapping, Served, Made}
+use Rattle.plan.specs.Outcomes.{isMade, sizeOf}
+use Rattle.plan.specs.Fresh.{tableOf}
 
 -- ---- what an outcome says
 

@@ -1,1 +1,1 @@
-// The whole result as definitions, and its laws. There is no code here.
+// No code: what a table that is made gives, the result's bytes, and the order of refusals.

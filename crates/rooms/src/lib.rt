@@ -1,10 +1,10 @@
 // A job worked out in work room of its own: a small room where that is enough, since clearing a large one takes longer than most jobs.
 use number::limits::KEPT_MAX;
 use number::limits::PAIRS_MAX;
-use outcomes::Outcome;
+use plan::Outcome;
 ghost use mathlib.Core.Path.{_≡_};
 ghost use Rattle.listing.specs.Job.{job};
-ghost use Rattle.outcomes.specs.Outcomes.{Small};
+ghost use Rattle.plan.specs.Outcomes.{Small};
 ghost use Rattle.plan.specs.Plan.{plan};
 ghost use Rattle.promised.specs.Cmap.{outputOf};
 ghost use Rattle.concluding.specs.Concluding.{Passing};

@@ -20,9 +20,9 @@ use Rattle.uvs.specs.Default.{coveredBy, follow, longest, rangeBytes, newRecord
 use Rattle.uvs.proofs.TablesLaws.{eq-table}
 use Rattle.default_ranges.specs.Stream.{Lent, Point, Start, Next, points, records, mostOf}
 use Rattle.default_ranges.proofs.BitsLaws.{most-few}
-use Rattle.selector_tables.proofs.NewLaws.{records-new}
+use Rattle.format14.proofs.NewLaws.{records-new}
 use Rattle.default_ranges.proofs.StreamLaws.{Standing, standing-start, standing-on, start-here, records-end, range-size, points-yes}
-use Rattle.selector_tables.specs.Streams.{CodePoints, Fits, Flagging, sameRanges}
+use Rattle.format14.specs.Streams.{CodePoints, Fits, Flagging, sameRanges}
 use Rattle.same_uvs.proofs.CompareLaws.{Comparing, compare-on, compare-off, compare-short, compare-long, compare-end}
 use Rattle.same_uvs.proofs.RowLaws.{eq-enc}
 

@@ -9,7 +9,7 @@ ghost use lib.Seq.{sets};
 ghost use Rattle.marks.specs.Marks.{flagged};
 ghost use Rattle.uvs.specs.Default.{coveredBy, rangeBytes, newDefault};
 ghost use Rattle.default_ranges.specs.Stream.{Lent};
-ghost use Rattle.selector_tables.specs.Streams.{CodePoints, Fits, Flagging, sameRanges};
+ghost use Rattle.format14.specs.Streams.{CodePoints, Fits, Flagging, sameRanges};
 ghost use Rattle.same_uvs.specs.Rows.{sameRows, Row, Stay};
 
 // The number of a mapping, and how many kept points are below the code point of the last one looked up.

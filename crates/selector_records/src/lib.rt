@@ -5,7 +5,7 @@ ghost use lib.ListN.{length, getD};
 ghost use lib.Seq.{sets};
 ghost use Rattle.laws.specs.Select.{flat};
 ghost use Rattle.number.specs.BigEndian.{be};
-ghost use Rattle.selector_tables.specs.SelectorRecords.{usedAt, usedRecords, offsetFor, recordBytes, recordAt, header14, Distances, Far};
+ghost use Rattle.format14.specs.SelectorRecords.{usedAt, usedRecords, offsetFor, recordBytes, recordAt, header14, Distances, Far};
 
 // Whether record k has a table.
 fn is_used(ends: &[usize], k: usize) -> bool

@@ -10,7 +10,7 @@ use Rattle.source.specs.declared.Kind.{Kind}
 use Rattle.source.specs.declared.Kind.the-variants.{Format4, Format12}
 use Rattle.records.specs.Records.{leadsTo, Counted}
 use Rattle.records.proofs.RecordsLaws.{placed}
-use Rattle.covering.specs.Sibling.{siblingPair, languageOf, speaks, isSibling, firstSibling}
+use Rattle.plan.specs.Sibling.{siblingPair, languageOf, speaks, isSibling, firstSibling}
 
 module _ (wanted language : ℕ) (kind : Kind) where
   pub speaks4 : (s len : ℕ) → kind ≡ Format4 language s len → eqb language wanted ≡ speaks wanted kind

@@ -4,7 +4,7 @@ ghost use mathlib.Core.Path.{_≡_};
 ghost use Prim.Native.Nat.{_<_};
 ghost use Rattle.laws.specs.Choice.{both};
 ghost use Rattle.records.specs.Records.{isPair, Placed, Counted};
-ghost use Rattle.covering.specs.Sibling.{siblingPair, languageOf, speaks, isSibling, firstSibling};
+ghost use Rattle.plan.specs.Sibling.{siblingPair, languageOf, speaks, isSibling, firstSibling};
 
 fn language_of(kind: Kind) -> u32
     ensures { λ r. ⌜ r ≡ languageOf kind ⌝ }

@@ -3,8 +3,8 @@ use Prim.Native.Nat.{ℕ, _≤_}
 use mathlib.Core.Path.{_≡_}
 use mathlib.Core.List.{List}
 use Rattle.number.specs.Limits.{recordsMax}
-use Rattle.outcomes.specs.declared.Outcome.{Outcome}
-use Rattle.outcomes.specs.Outcomes.{Small}
+use Rattle.plan.specs.declared.Outcome.{Outcome}
+use Rattle.plan.specs.Outcomes.{Small}
 use Rattle.result.specs.Result.{written}
 
 -- so many records of a plan are written

@@ -1,5 +1,5 @@
 // Where the tables of a result stand, and how long it is.
-use outcomes::Outcome;
+use plan::Outcome;
 ghost use mathlib.Core.Path.{_≡_};
 ghost use Prim.Native.Nat.{_+_, _*_, _<_};
 ghost use Rattle.result.specs.Result.{offsetOf, resultLength};

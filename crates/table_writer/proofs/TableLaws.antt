@@ -18,18 +18,18 @@ use Rattle.format4.specs.declared.Size.the-variants.{Empty, TooLong, Fits}
 use Rattle.format4.specs.Format4.{format4}
 use Rattle.format4.specs.Size.{sizeOf as sizeOf4}
 use Rattle.format12.specs.Format12.{format12}
-use Rattle.making.specs.Making.{Fronts}
+use Rattle.plan.specs.Making.{Fronts}
 use Rattle.making4.specs.Fits4.{Fits4}
-use Rattle.selector_tables.specs.Selectors.{given}
-use Rattle.selector_tables.specs.ByNumber.{slot}
-use Rattle.selector_tables.specs.Ends.{Ends}
+use Rattle.format14.specs.Selectors.{given}
+use Rattle.format14.specs.ByNumber.{slot}
+use Rattle.format14.specs.Ends.{Ends}
 use Rattle.format14.specs.Format14.{format14, rows, lengthOf}
 use Rattle.format14.proofs.WholeLaws.{length-format14}
-use Rattle.outcomes.specs.declared.Outcome.the-variants.{Made}
-use Rattle.outcomes.specs.Outcomes.{sizeOf}
-use Rattle.fresh.specs.Fresh.{tableOf, by4, fresh}
-use Rattle.fresh.proofs.FreshLaws.{leads4, readable14}
-use Rattle.made.proofs.MadeLaws.{not-made, made-length, table-is}
+use Rattle.plan.specs.declared.Outcome.the-variants.{Made}
+use Rattle.plan.specs.Outcomes.{sizeOf}
+use Rattle.plan.specs.Fresh.{tableOf, by4, fresh}
+use Rattle.plan.proofs.FreshLaws.{leads4, readable14}
+use Rattle.result.proofs.MadeLaws.{not-made, made-length, table-is}
 use Rattle.table_writer.specs.Parts.{Room, Known}
 
 sized4 : (ps : List Pair) (place n l : ℕ) (size : Size) → sizeOf4 ps ≡ size → by4 size ≡ Made n → place + n ≤ l → Fits4 ps place l

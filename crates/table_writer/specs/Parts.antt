@@ -4,9 +4,9 @@ use mathlib.Core.Path.{_≡_}
 use mathlib.Core.List.{List}
 use Rattle.number.specs.Limits.{recordsMax}
 use Rattle.listing.specs.Job.{Job, glyphCount}
-use Rattle.outcomes.specs.declared.Outcome.the-variants.{Made}
-use Rattle.fresh.specs.Fresh.{fresh}
-use Rattle.fresh.specs.Notes.{Fronted, Ended}
+use Rattle.plan.specs.declared.Outcome.the-variants.{Made}
+use Rattle.plan.specs.Fresh.{fresh}
+use Rattle.plan.specs.RecordNotes.{Fronted, Ended}
 
 -- record k makes a table of so many bytes if no earlier one serves it, and it fits into l bytes at a place
 pub record Room (j : Job) (k place size l : ℕ) : Type 0 where

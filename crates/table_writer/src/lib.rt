@@ -4,7 +4,7 @@ ghost use mathlib.Core.Path.{_≡_};
 ghost use lib.ListN.{length};
 ghost use lib.Seq.{sets};
 ghost use Rattle.listing.specs.Job.{job};
-ghost use Rattle.fresh.specs.Fresh.{tableOf, Ready};
+ghost use Rattle.plan.specs.Fresh.{tableOf, Ready};
 ghost use Rattle.table_writer.specs.Parts.{Room, Known};
 
 // Writes the table of so many bytes that record k makes, by what planning noted of it; the flags and the two lists after them are work room.

@@ -7,8 +7,8 @@ ghost use Rattle.laws.specs.Select.{eqList};
 ghost use Rattle.number.specs.BigEndian.{be};
 ghost use Rattle.uvs.specs.Checksum.{checksum};
 ghost use Rattle.uvs.specs.Tables.{counts};
-ghost use Rattle.selector_tables.specs.Selectors.{given};
-ghost use Rattle.selector_tables.specs.ByNumber.{slot, badSlot, Source, Readable, Numbered, Size, Both};
+ghost use Rattle.format14.specs.Selectors.{given};
+ghost use Rattle.format14.specs.ByNumber.{slot, badSlot, Source, Readable, Numbered, Size, Both};
 
 // Whether the source's table t, `off` from the start of the subtable, counts.
 fn counts_table(s: &[u8], at: usize, len: usize, off: u32, t: usize) -> bool

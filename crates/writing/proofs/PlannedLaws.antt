@@ -8,16 +8,16 @@ use lib.ListN.{length}
 use Rattle.laws.proofs.ChoiceLaws.{by-leb, false-true}
 use Rattle.header.specs.Header.{recordCount}
 use Rattle.listing.specs.Job.{Job}
-use Rattle.outcomes.specs.declared.Outcome.{Outcome}
-use Rattle.outcomes.specs.declared.Outcome.the-variants.{NotRetained, Skipped, Empty, TooLong, Covered, BadMapping, Served, Made}
-use Rattle.outcomes.specs.Outcomes.{isMade, sizeOf, Small}
-use Rattle.fresh.specs.Fresh.{tableOf, Ready}
+use Rattle.plan.specs.declared.Outcome.{Outcome}
+use Rattle.plan.specs.declared.Outcome.the-variants.{NotRetained, Skipped, Empty, TooLong, Covered, BadMapping, Served, Made}
+use Rattle.plan.specs.Outcomes.{isMade, sizeOf, Small}
+use Rattle.plan.specs.Fresh.{tableOf, Ready}
 use Rattle.plan.specs.Plan.{plan, Prepared}
 use Rattle.plan.proofs.PlanLaws.{ready, prepared-again}
-use Rattle.made.proofs.MadeLaws.{made-length}
-use Rattle.made.proofs.PlanLaws.{Making, plan-past, plan-made, plan-served}
+use Rattle.result.proofs.MadeLaws.{made-length}
+use Rattle.result.proofs.PlanLaws.{Making, plan-past, plan-made, plan-served}
 use Rattle.result.specs.Result.{isWritten, makerOf, at, written, resultOf, resultLength}
-use Rattle.outcomes.proofs.SizeLaws.{made-size}
+use Rattle.plan.proofs.SizeLaws.{made-size}
 use Rattle.record_writer.specs.Parts.{Laid}
 use Rattle.writing.specs.Writing.{Planned}
 use Rattle.result.proofs.LengthLaws.{length-result}

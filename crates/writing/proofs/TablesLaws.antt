@@ -9,13 +9,13 @@ use lib.ListN.{length, getD}
 use lib.Seq.{sets, length-sets}
 use Rattle.laws.proofs.SetsLaws.{sets-append}
 use Rattle.listing.specs.Job.{Job}
-use Rattle.outcomes.specs.declared.Outcome.{Outcome}
-use Rattle.outcomes.specs.declared.Outcome.the-variants.{NotRetained}
-use Rattle.outcomes.specs.Outcomes.{isMade, sizeOf}
-use Rattle.fresh.specs.Fresh.{tableOf, Ready}
+use Rattle.plan.specs.declared.Outcome.{Outcome}
+use Rattle.plan.specs.declared.Outcome.the-variants.{NotRetained}
+use Rattle.plan.specs.Outcomes.{isMade, sizeOf}
+use Rattle.plan.specs.Fresh.{tableOf, Ready}
 use Rattle.result.specs.Result.{at, sizesFrom, tablesStart, tablesBelow, resultLength}
 use Rattle.result.proofs.CountLaws.{sizes-snoc}
-use Rattle.outcomes.proofs.SizeLaws.{unmade-size}
+use Rattle.plan.proofs.SizeLaws.{unmade-size}
 use Rattle.writing.specs.Writing.{Planned, Noted}
 use Rattle.table_writer.specs.Parts.{Room, Known}
 use Rattle.result.proofs.LengthLaws.{size-made}

@@ -9,7 +9,7 @@ use Rattle.laws.proofs.SetsLaws.{sets-append}
 use Rattle.number.specs.BigEndian.{enc}
 use Rattle.number.proofs.BigEndianLaws.{length-enc}
 use Rattle.listing.specs.Job.{Job, job}
-use Rattle.outcomes.specs.declared.Outcome.{Outcome}
+use Rattle.plan.specs.declared.Outcome.{Outcome}
 use Rattle.result.specs.Result.{written, tablesStart, recordsFrom, tablesBelow, resultOf, resultLength}
 use Rattle.record_writer.specs.Parts.{sourced, Laid}
 use Rattle.writing.specs.Writing.{Planned}

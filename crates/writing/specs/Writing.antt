@@ -4,8 +4,8 @@ use mathlib.Core.Path.{_≡_}
 use mathlib.Core.List.{List}
 use Rattle.header.specs.Header.{recordCount}
 use Rattle.listing.specs.Job.{Job, glyphCount}
-use Rattle.outcomes.specs.declared.Outcome.{Outcome}
-use Rattle.fresh.specs.Notes.{Fronted}
+use Rattle.plan.specs.declared.Outcome.{Outcome}
+use Rattle.plan.specs.RecordNotes.{Fronted}
 use Rattle.plan.specs.Plan.{plan, Prepared}
 use Rattle.plan.specs.Notes.{Endings}
 use Rattle.table_places.specs.Counts.{Counts}

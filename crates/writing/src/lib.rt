@@ -1,5 +1,5 @@
 // Writing a result by a plan: header, records, and the tables that records make.
-use outcomes::Outcome;
+use plan::Outcome;
 ghost use mathlib.Core.Path.{_≡_};
 ghost use Prim.Native.Nat.{_≤_};
 ghost use lib.ListN.{length};

@@ -1,4 +1,4 @@
-use Rattle.fresh.proofs.NotesLaws.{fronting}
+use Rattle.plan.proofs.RecordNotesLaws.{fronting}
 use Rattle.concluding.proofs.PassingLaws.{passing}
 use Rattle.carrying.proofs.CarryingLaws.{still-enough, counted-room, notes}
 use borrow.Author.Needs.{needs}

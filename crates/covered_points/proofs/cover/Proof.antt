@@ -4,7 +4,7 @@ use Rattle.covered_points.proofs.cover.Tie as tie
 use borrow.Author.Needs.{needs}
 use native.Mathlib.Omega.{arith}
 use Prim.Native.Nat.{_-_}
-use Rattle.selector_tables.proofs.CoverLaws.{Covering, covering}
+use Rattle.format14.proofs.CoverLaws.{Covering, covering}
 
 abbrev Inv-loop : tie.InvT-loop
 Inv-loop flags₀ s p kept r i₀ near₀ flags i near = Covering s p kept r flags₀ flags i

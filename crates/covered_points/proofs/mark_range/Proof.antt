@@ -2,7 +2,7 @@
 use borrow.Author.Needs.{needs}
 use Rattle.covered_points.proofs.mark_range.Statement.{statement}
 use Rattle.covered_points.proofs.mark_range.Tie as tie
-use Rattle.selector_tables.proofs.CoverLaws.{mark-is}
+use Rattle.format14.proofs.CoverLaws.{mark-is}
 
 u24-at-requires : tie.Need-u24-at-requires
 u24-at-requires c κs = search needs

@@ -2,7 +2,7 @@
 use borrow.Author.Needs.{needs}
 use Rattle.default_uvs.proofs.copy_default_uvs.Statement.{statement}
 use Rattle.default_uvs.proofs.copy_default_uvs.Tie as tie
-use Rattle.selector_tables.proofs.NewLaws.{new-rules}
+use Rattle.format14.proofs.NewLaws.{new-rules}
 use Rattle.uvs.proofs.TablesLaws.{write-short}
 use Rattle.uvs.specs.Default.{newDefault}
 

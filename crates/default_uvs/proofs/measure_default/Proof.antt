@@ -2,7 +2,7 @@
 use borrow.Author.Needs.{needs}
 use Rattle.default_uvs.proofs.measure_default.Statement.{statement}
 use Rattle.default_uvs.proofs.measure_default.Tie as tie
-use Rattle.selector_tables.proofs.NewLaws.{new-rules, sum-new}
+use Rattle.format14.proofs.NewLaws.{new-rules, sum-new}
 
 prepare-requires : tie.Need-prepare-requires
 prepare-requires c κs = search needs

@@ -1,4 +1,4 @@
-use Rattle.covering.specs.Covered.{covered}
+use Rattle.plan.specs.Covered.{covered}
 use Rattle.laws.proofs.ChoiceLaws.{all-of}
 use borrow.Author.Needs.{needs}
 use Rattle.dropping.proofs.can_drop_format12.Statement.{statement}

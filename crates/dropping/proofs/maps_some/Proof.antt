@@ -1,7 +1,7 @@
 use borrow.Author.Needs.{needs}
 use Rattle.dropping.proofs.maps_some.Statement.{statement}
 use Rattle.dropping.proofs.maps_some.Tie as tie
-use Rattle.covering.proofs.CoveredLaws.{reaching-above}
+use Rattle.plan.proofs.CoveredLaws.{reaching-above}
 
 collect-record-requires : tie.Need-collect-record-requires
 collect-record-requires c κs = search needs

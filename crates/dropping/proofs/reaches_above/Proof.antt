@@ -1,7 +1,7 @@
 use borrow.Author.Needs.{needs}
 use Rattle.dropping.proofs.reaches_above.Statement.{statement}
 use Rattle.dropping.proofs.reaches_above.Tie as tie
-use Rattle.covering.proofs.CoveredLaws.{reaching-above}
+use Rattle.plan.proofs.CoveredLaws.{reaching-above}
 
 count-near-requires : tie.Need-count-near-requires
 count-near-requires c κs = search needs

@@ -1,7 +1,7 @@
 use borrow.Author.Needs.{needs}
 use Rattle.dropping.proofs.sibling_covers.Statement.{statement}
 use Rattle.dropping.proofs.sibling_covers.Tie as tie
-use Rattle.covering.proofs.CoveredLaws.{covering}
+use Rattle.plan.proofs.CoveredLaws.{covering}
 
 first-sibling-requires : tie.Need-first-sibling-requires
 first-sibling-requires c κs = search needs

@@ -4,8 +4,8 @@ use native.Mathlib.Omega.{arith}
 use mathlib.Core.Path.{_≡_}
 use lib.ListN.{length}
 use Rattle.format14.proofs.FillingLaws.{Filling, filling, slot-room, far-fits}
-use Rattle.selector_tables.specs.Selectors.{given}
-use Rattle.selector_tables.specs.ByNumber.{slot}
+use Rattle.format14.specs.Selectors.{given}
+use Rattle.format14.specs.ByNumber.{slot}
 use Rattle.format14_writer.proofs.copy_var_selector_record_uvs_tables.Statement.{statement}
 use Rattle.format14_writer.proofs.copy_var_selector_record_uvs_tables.Tie as tie
 

@@ -1,5 +1,5 @@
-use Rattle.fresh.proofs.FreshLaws.{freshly}
-use Rattle.fresh.proofs.NotesLaws.{turning}
+use Rattle.plan.proofs.FreshLaws.{freshly}
+use Rattle.plan.proofs.RecordNotesLaws.{turning}
 use borrow.Author.Needs.{needs}
 use Rattle.fresh_outcome.proofs.fresh.Statement.{statement}
 use Rattle.fresh_outcome.proofs.fresh.Tie as tie

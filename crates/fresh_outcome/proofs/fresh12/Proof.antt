@@ -1,5 +1,5 @@
-use Rattle.fresh.proofs.SizesLaws.{sizes}
-use Rattle.fresh.proofs.NotesLaws.{fronting}
+use Rattle.plan.proofs.SizesLaws.{sizes}
+use Rattle.plan.proofs.RecordNotesLaws.{fronting}
 use borrow.Author.Needs.{needs}
 use Rattle.fresh_outcome.proofs.fresh12.Statement.{statement}
 use Rattle.fresh_outcome.proofs.fresh12.Tie as tie

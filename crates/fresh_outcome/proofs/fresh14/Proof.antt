@@ -1,4 +1,4 @@
-use Rattle.fresh.proofs.SizesLaws.{sizes}
+use Rattle.plan.proofs.SizesLaws.{sizes}
 use borrow.Author.Needs.{needs}
 use Rattle.fresh_outcome.proofs.fresh14.Statement.{statement}
 use Rattle.fresh_outcome.proofs.fresh14.Tie as tie

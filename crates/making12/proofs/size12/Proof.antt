@@ -1,4 +1,4 @@
-use Rattle.making.proofs.MakingLaws.{made}
+use Rattle.plan.proofs.MakingLaws.{made}
 use Rattle.making12.proofs.Making12Laws.{made12}
 use borrow.Author.Needs.{needs}
 use Rattle.making12.proofs.size12.Statement.{statement}

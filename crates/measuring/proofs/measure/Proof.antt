@@ -6,8 +6,8 @@ use native.Mathlib.Omega.{arith}
 use lib.ListN.{length, length-set}
 use mathlib.Core.Path.{_≡_}
 use Prim.Native.Nat.{_-_, _≤_}
-use Rattle.selector_tables.specs.ByNumber.{slot}
-use Rattle.selector_tables.specs.Selectors.{given}
+use Rattle.format14.specs.ByNumber.{slot}
+use Rattle.format14.specs.Selectors.{given}
 use Rattle.measuring.specs.Measuring.{Sources, Refused}
 use Rattle.measuring.proofs.MeasuringLaws.{Measuring, measuring, before, sourcing, refusing, refused-all}
 

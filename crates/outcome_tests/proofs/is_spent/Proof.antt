@@ -1,7 +1,7 @@
 use borrow.Author.Needs.{needs}
 use Rattle.outcome_tests.proofs.is_spent.Statement.{statement}
 use Rattle.outcome_tests.proofs.is_spent.Tie as tie
-use Rattle.outcomes.proofs.TwinLaws.{twin-tests}
+use Rattle.plan.proofs.TwinsLaws.{twin-tests}
 
 mul-o : tie.Need-mul-o
 mul-o c = search needs

@@ -1,7 +1,7 @@
 use borrow.Author.Needs.{needs}
 use Rattle.outcome_tests.proofs.is_twin.Statement.{statement}
 use Rattle.outcome_tests.proofs.is_twin.Tie as tie
-use Rattle.outcomes.proofs.TwinLaws.{twin-tests}
+use Rattle.plan.proofs.TwinsLaws.{twin-tests}
 
 encoding-record-requires : tie.Need-encoding-record-requires
 encoding-record-requires c κs = search needs

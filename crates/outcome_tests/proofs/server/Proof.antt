@@ -2,8 +2,8 @@ use native.Mathlib.Omega.{arith}
 use Prim.Native.Nat.{_-_}
 use borrow.Author.Needs.{needs}
 use Rattle.laws.proofs.SearchLaws.{Finding}
-use Rattle.outcomes.specs.Outcomes.{serves, server}
-use Rattle.outcomes.proofs.ServesLaws.{server-search}
+use Rattle.plan.specs.Outcomes.{serves, server}
+use Rattle.plan.proofs.ServesLaws.{server-search}
 use Rattle.outcome_tests.proofs.server.Statement.{statement}
 use Rattle.outcome_tests.proofs.server.Tie as tie
 

@@ -1,4 +1,4 @@
-use Rattle.outcomes.proofs.ServesLaws.{serving}
+use Rattle.plan.proofs.ServesLaws.{serving}
 use borrow.Author.Needs.{needs}
 use Rattle.outcome_tests.proofs.serves.Statement.{statement}
 use Rattle.outcome_tests.proofs.serves.Tie as tie

@@ -2,8 +2,8 @@ use native.Mathlib.Omega.{arith}
 use Prim.Native.Nat.{_-_}
 use borrow.Author.Needs.{needs}
 use Rattle.laws.proofs.SearchLaws.{Finding}
-use Rattle.outcomes.specs.Twins.{isSpent, spent}
-use Rattle.outcomes.proofs.TwinLaws.{twin-search}
+use Rattle.plan.specs.Twins.{isSpent, spent}
+use Rattle.plan.proofs.TwinsLaws.{twin-search}
 use Rattle.outcome_tests.proofs.spent.Statement.{statement}
 use Rattle.outcome_tests.proofs.spent.Tie as tie
 

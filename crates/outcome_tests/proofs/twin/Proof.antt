@@ -2,8 +2,8 @@ use native.Mathlib.Omega.{arith}
 use Prim.Native.Nat.{_-_}
 use borrow.Author.Needs.{needs}
 use Rattle.laws.proofs.SearchLaws.{Finding}
-use Rattle.outcomes.specs.Twins.{isTwin, twin}
-use Rattle.outcomes.proofs.TwinLaws.{twin-search}
+use Rattle.plan.specs.Twins.{isTwin, twin}
+use Rattle.plan.proofs.TwinsLaws.{twin-search}
 use Rattle.outcome_tests.proofs.twin.Statement.{statement}
 use Rattle.outcome_tests.proofs.twin.Tie as tie
 

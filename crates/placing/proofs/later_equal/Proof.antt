@@ -7,8 +7,8 @@ use lib.ListN.{length}
 use Rattle.laws.specs.Select.{eqList}
 use Rattle.laws.proofs.SearchLaws.{Seeking, seeking}
 use Rattle.placing.proofs.EqualLaws.{alls}
-use Rattle.selector_tables.specs.Selectors.{given}
-use Rattle.selector_tables.specs.ByNumber.{slot}
+use Rattle.format14.specs.Selectors.{given}
+use Rattle.format14.specs.ByNumber.{slot}
 use Rattle.placing.proofs.later_equal.Statement.{statement}
 use Rattle.placing.proofs.later_equal.Tie as tie
 

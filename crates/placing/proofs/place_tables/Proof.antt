@@ -4,8 +4,8 @@ use native.Mathlib.Omega.{arith}
 use mathlib.Core.Path.{_≡_}
 use lib.ListN.{length, length-set}
 use Rattle.placing.proofs.PlacingLaws.{Placing, placing, placing-ends, placing-total, tail-fits}
-use Rattle.selector_tables.specs.Selectors.{given}
-use Rattle.selector_tables.specs.ByNumber.{slot}
+use Rattle.format14.specs.Selectors.{given}
+use Rattle.format14.specs.ByNumber.{slot}
 use Rattle.placing.proofs.place_tables.Statement.{statement}
 use Rattle.placing.proofs.place_tables.Tie as tie
 

@@ -1,7 +1,7 @@
 use Rattle.plan.proofs.TwinLaws.{twins}
 use Rattle.plan.proofs.NotesLaws.{staying, notebook-again}
 use Rattle.plan.proofs.OutcomeLaws.{outcome-rules}
-use Rattle.fresh.proofs.FreshLaws.{ready-again}
+use Rattle.plan.proofs.FreshLaws.{ready-again}
 use borrow.Author.Needs.{needs}
 use Rattle.planning.proofs.retained_outcome.Statement.{statement}
 use Rattle.planning.proofs.retained_outcome.Tie as tie

@@ -1,5 +1,5 @@
 -- The selector as the source has it, and an offset for each distance.
-use Rattle.selector_tables.proofs.SelectorRecordsLaws.{far-first, far-second, copied-is}
+use Rattle.format14.proofs.SelectorRecordsLaws.{far-first, far-second, copied-is}
 use borrow.Author.Needs.{needs}
 use Rattle.selector_records.proofs.copy_record.Statement.{statement}
 use Rattle.selector_records.proofs.copy_record.Tie as tie

@@ -2,7 +2,7 @@
 use borrow.Author.Needs.{needs}
 use native.Mathlib.Omega.{arith}
 use Prim.Native.Nat.{_-_}
-use Rattle.selector_tables.proofs.SelectorRecordsLaws.{Copies, copies, copies-room, distances-less}
+use Rattle.format14.proofs.SelectorRecordsLaws.{Copies, copies, copies-room, distances-less}
 use Rattle.selector_records.proofs.copy_records.Statement.{statement}
 use Rattle.selector_records.proofs.copy_records.Tie as tie
 

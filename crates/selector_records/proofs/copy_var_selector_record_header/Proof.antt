@@ -1,5 +1,5 @@
 -- Three numbers, each behind the one before.
-use Rattle.selector_tables.proofs.SelectorRecordsLaws.{record-is}
+use Rattle.format14.proofs.SelectorRecordsLaws.{record-is}
 use borrow.Author.Needs.{needs}
 use Rattle.selector_records.proofs.copy_var_selector_record_header.Statement.{statement}
 use Rattle.selector_records.proofs.copy_var_selector_record_header.Tie as tie

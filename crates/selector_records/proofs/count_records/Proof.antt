@@ -3,7 +3,7 @@ use borrow.Author.Needs.{needs}
 use native.Mathlib.Omega.{arith}
 use Prim.Native.Nat.{_-_}
 use Rattle.laws.proofs.SelectLaws.{Counting, counting}
-use Rattle.selector_tables.specs.SelectorRecords.{usedAt}
+use Rattle.format14.specs.SelectorRecords.{usedAt}
 use Rattle.selector_records.proofs.count_records.Statement.{statement}
 use Rattle.selector_records.proofs.count_records.Tie as tie
 

@@ -1,5 +1,5 @@
 -- Used if one of the two distances is not 0.
-use Rattle.selector_tables.proofs.SelectorRecordsLaws.{used-rules}
+use Rattle.format14.proofs.SelectorRecordsLaws.{used-rules}
 use borrow.Author.Needs.{needs}
 use Rattle.selector_records.proofs.is_used.Statement.{statement}
 use Rattle.selector_records.proofs.is_used.Tie as tie

@@ -1,5 +1,5 @@
 -- The tables end where the subtable ends, so a distance gives an offset.
-use Rattle.selector_tables.proofs.SelectorRecordsLaws.{offset-rules}
+use Rattle.format14.proofs.SelectorRecordsLaws.{offset-rules}
 use borrow.Author.Needs.{needs}
 use Rattle.selector_records.proofs.offset_for.Statement.{statement}
 use Rattle.selector_records.proofs.offset_for.Tie as tie

@@ -1,5 +1,5 @@
 -- Three numbers, each behind the one before.
-use Rattle.selector_tables.proofs.SelectorRecordsLaws.{header-is}
+use Rattle.format14.proofs.SelectorRecordsLaws.{header-is}
 use borrow.Author.Needs.{needs}
 use Rattle.selector_records.proofs.put_header.Statement.{statement}
 use Rattle.selector_records.proofs.put_header.Tie as tie

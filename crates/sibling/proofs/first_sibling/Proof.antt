@@ -2,7 +2,7 @@ use native.Mathlib.Omega.{arith}
 use Prim.Native.Nat.{_-_}
 use borrow.Author.Needs.{needs}
 use Rattle.laws.proofs.SearchLaws.{Finding}
-use Rattle.covering.specs.Sibling.{isSibling, firstSibling}
+use Rattle.plan.specs.Sibling.{isSibling, firstSibling}
 use Rattle.sibling.proofs.SiblingLaws.{sibling-search}
 use Rattle.sibling.proofs.first_sibling.Statement.{statement}
 use Rattle.sibling.proofs.first_sibling.Tie as tie

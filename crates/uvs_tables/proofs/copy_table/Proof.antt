@@ -1,5 +1,5 @@
 -- The table found is the default or the non-default one by its number.
-use Rattle.selector_tables.proofs.ByNumberLaws.{copies, lents, room-default, room-non-default}
+use Rattle.format14.proofs.ByNumberLaws.{copies, lents, room-default, room-non-default}
 use borrow.Author.Needs.{needs}
 use Rattle.uvs_tables.proofs.copy_table.Statement.{statement}
 use Rattle.uvs_tables.proofs.copy_table.Tie as tie

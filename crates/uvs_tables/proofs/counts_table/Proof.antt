@@ -1,5 +1,5 @@
 -- The records of a default table have four bytes, those of a non-default table five.
-use Rattle.selector_tables.proofs.ByNumberLaws.{counts-rules}
+use Rattle.format14.proofs.ByNumberLaws.{counts-rules}
 use borrow.Author.Needs.{needs}
 use Rattle.uvs_tables.proofs.counts_table.Statement.{statement}
 use Rattle.uvs_tables.proofs.counts_table.Tie as tie

@@ -2,7 +2,7 @@
 use borrow.Author.Needs.{needs}
 use Rattle.uvs_tables.proofs.measure_table.Statement.{statement}
 use Rattle.uvs_tables.proofs.measure_table.Tie as tie
-use Rattle.selector_tables.proofs.ByNumberLaws.{sizes, sums, bads, lents}
+use Rattle.format14.proofs.ByNumberLaws.{sizes, sums, bads, lents}
 
 returns : tie.Need-returns
 returns c = (search sizes, (search sums, search bads))

@@ -1,5 +1,5 @@
 -- Tables of one sort are compared as such; those of two sorts differ.
-use Rattle.selector_tables.proofs.ByNumberLaws.{sames, one-default, other-default, one-non-default, other-non-default}
+use Rattle.format14.proofs.ByNumberLaws.{sames, one-default, other-default, one-non-default, other-non-default}
 use borrow.Author.Needs.{needs}
 use Rattle.uvs_tables.proofs.same_table.Statement.{statement}
 use Rattle.uvs_tables.proofs.same_table.Tie as tie

@@ -1,5 +1,5 @@
 -- The selector is looked up first, then its table is asked whether it counts.
-use Rattle.selector_tables.proofs.ByNumberLaws.{source-rules}
+use Rattle.format14.proofs.ByNumberLaws.{source-rules}
 use borrow.Author.Needs.{needs}
 use Rattle.uvs_tables.proofs.source_table.Statement.{statement}
 use Rattle.uvs_tables.proofs.source_table.Tie as tie

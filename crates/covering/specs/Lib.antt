@@ -1,2 +1,0 @@
-pub mod Covered
-pub mod Sibling

@@ -1,4 +1,0 @@
-pub mod SizesLaws
-pub mod FreshLaws
-pub mod NotesLaws
-pub mod KindLaws

@@ -1,3 +1,0 @@
-pub mod SizeLaws
-pub mod ServesLaws
-pub mod TwinLaws

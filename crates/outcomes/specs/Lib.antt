@@ -1,2 +1,0 @@
-pub mod Outcomes
-pub mod Twins

@@ -1,5 +1,0 @@
-pub mod Selectors
-pub mod ByNumber
-pub mod Ends
-pub mod SelectorRecords
-pub mod Streams
