@@ -109,7 +109,7 @@ held-at v ps fs₀ fs start end low high j l d h = l .each j (d .order) h
 -- ---- blocks
 
 pub noted-none : (n : ℕ) (fs : List ℕ) → Noted (replicate n 0) fs
-noted-none n fs = record { shut = λ b k s a h z. s (getD-row 0 n b) }
+noted-none n fs = record { shut = λ b k s a h z. s (getD-row {A = ℕ} 0 n b) }
 
 module _ (v : ℕ → Bool) (noted ps fs : List ℕ) (low high : ℕ) (n : Noted noted fs) where
   pub noted-kept : (fs′ : List ℕ) → Decided v ps fs fs′ low high → Noted noted fs′

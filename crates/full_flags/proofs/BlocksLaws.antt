@@ -65,7 +65,7 @@ filling-block l fs′ j p = filling-part l fs′ j (omega (arith, p .past)) (p .
 -- ---- what is full
 
 pub full-none : (k : ℕ) (fs : List ℕ) → Full (replicate k 0) fs
-full-none k fs = record { ones = λ b. record { each = λ i a h. absurd (omega (arith, getD-row 0 k b)) } }
+full-none k fs = record { ones = λ b. record { each = λ i a h. absurd (omega (arith, getD-row {A = ℕ} 0 k b)) } }
 
 module _ (full fs : List ℕ) (f : Full full fs) where
   pub full-here : (i : ℕ) → Ones fs i (getD full (i / 256) 0 * 256)

@@ -31,7 +31,7 @@ module _ (xs : List ℕ) (n : ℕ) (cs gs : List ℕ) where
   unknown k = record { within = omega arith; is = λ h. absurd (omega arith) }
 
   pub fronted-none : Fronted xs n cs gs (replicate 64 0)
-  fronted-none = record { rows = omega (arith, length-replicate {A = ℕ} 64 0); each = λ k. rw (getD-row 0 64 k) (unknown k) }
+  fronted-none = record { rows = omega (arith, length-replicate {A = ℕ} 64 0); each = λ k. rw (getD-row {A = ℕ} 0 64 k) (unknown k) }
 
   pub fronted-on : (fs : List ℕ) (k front : ℕ) → Fronted xs n cs gs fs → Fronts xs n cs gs k front → k < 64 → Fronted xs n cs gs (set fs k front)
   fronted-on fs k front f q h = record {
