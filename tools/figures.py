@@ -10,6 +10,7 @@ import glob
 import json
 import os
 import re
+import resource
 import subprocess
 import sys
 import tempfile
@@ -20,7 +21,7 @@ HEAD = """# Figures
 `python3 tools/figures.py > docs/FIGURES.md` runs `.ci/run` and prints this page anew.
 
 Lines are those that are neither empty nor a comment. **Code** is src/, contracts included; **definitions** are specs/, what a contract can say; **laws** are the files of proofs/ that stand for no one function;
-**answers** are the functions' own proof files, of which the greater part is the prover's scaffold. **Check** is the time of the crate's own check in that run, two at a time, and the most memory that the prover held for it, or for it with an edit.
+**answers** are the functions' own proof files, of which the greater part is the prover's scaffold. **Check** is the time of the crate's own check in that run, where four share the cores, so that alone it may take half of it; and the most memory that the prover held for it, or for it with an edit.
 """
 
 
@@ -79,19 +80,23 @@ def run():
         while child.poll() is None:
             look(peaks)
             time.sleep(0.5)
-        took = time.time() - began
+        spans = [("real", time.time() - began)]
+        used = resource.getrusage(resource.RUSAGE_CHILDREN)
+        spans += [("user", used.ru_utime), ("sys", used.ru_stime)]
         out.seek(0)
-        return out.read() + f"\nreal\t{int(took // 60)}m{took % 60:.1f}s\n", peaks
+        return out.read() + "\n" + "".join(f"{name}\t{int(span // 60)}m{span % 60:.1f}s\n" for name, span in spans), peaks
 
 
 def whole(log):
     edits = [int(n) for n in re.findall(r"must-fail \S+: refused, as it must be \((?:[^()]*; )?(\d+) s\)", log)]
     verdict = re.findall(r"\d+ passed, \d+ failed", log)
-    took = re.findall(r"^real\s+(\d+)m([\d.]+)s", log, re.M)
+    took = {name: int(m) * 60 + float(s) for name, m, s in re.findall(r"^(real|user|sys)\s+(\d+)m([\d.]+)s", log, re.M)}
     said = f"The whole of `.ci/run`: {verdict[-1] if verdict else 'no verdict'}"
-    if took:
-        said += f", {took[-1][0]} min {float(took[-1][1]):.0f} s on {os.cpu_count()} cores"
-    return said + f"; of that {len(edits)} must-fail edits, {sum(edits):,} seconds of one core."
+    if "real" in took:
+        said += f", {int(took['real'] // 60)} min {took['real'] % 60:.0f} s on {os.cpu_count()} cores"
+    if "user" in took and "sys" in took:
+        said += f", {(took['user'] + took['sys']) / 60:.0f} min of processor time"
+    return said + f". It has {len(edits)} must-fail edits."
 
 
 def main():
