@@ -28,7 +28,7 @@ use Rattle.heads.specs.Heads.{oldHead, newHead, numberOf, printedOf}
 use Rattle.plan.specs.declared.Outcome.{Outcome}
 use Rattle.plan.specs.Outcomes.{isMade}
 use Rattle.plan.specs.Fresh.{listedOf}
-use Rattle.plan.specs.Plan.{plan, counts, refused9}
+use Rattle.plan.specs.Plan.{plan, madePlain, refused9}
 use Rattle.result.specs.Lent.{Lent}
 use Rattle.result.proofs.LentLaws.{lent}
 use Rattle.result.proofs.ListedLaws.{listed-glyph}
@@ -74,8 +74,8 @@ module _ (j : Job) (os : List Outcome) (few : recordCount (j .source) ≤ 64) (s
   not-lost : 64 ≤ first (makes j os 4) 64 0 → 64 ≤ first (makes j os 12) 64 0 → ⊥
   unfolding refused9
   not-lost a b =
-      let e = true-of-not (some (counts (j .source) os) (recordCount (j .source)) 0) some9 in
-      let f = some-none (counts (j .source) os) (recordCount (j .source))
+      let e = true-of-not (some (madePlain (j .source) os) (recordCount (j .source)) 0) some9 in
+      let f = some-none (madePlain (j .source) os) (recordCount (j .source))
       (λ k h.
       both-neither (isMade (at os k)) (leadsToFormat 4 (j .source) k) (leadsToFormat 12 (j .source) k)
       (first-before (makes j os 4) 64 k (omega arith) (omega arith))

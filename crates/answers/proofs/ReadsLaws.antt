@@ -7,7 +7,7 @@ use Rattle.source.specs.Kind.{formatOf}
 use Rattle.records.specs.Records.{leadsTo}
 use Rattle.listing.specs.Job.{Job}
 use Rattle.lookup.specs.Lookup.{lookup4, lookup12}
-use Rattle.plan.specs.Outcomes.{sizeOf}
+use Rattle.plan.specs.Outcomes.{madeSize}
 use Rattle.plan.specs.Plan.{plan}
 use Rattle.result.specs.Lent.{Lent}
 use Rattle.result.proofs.TablesLaws.{made-format, made-finds4, made-finds12}
@@ -18,12 +18,12 @@ use Rattle.answers.proofs.AnswersLaws.{Reads}
 module _ (j : Job) (l : Lent j) (few : recordCount (j .source) ≤ recordsMax) where
   pub plan-reads4 : Reads 4 lookup4 j (plan j)
   plan-reads4 = record {
-    alike = λ k xs place m st. made-format l k (sizeOf (at (plan j) k)) (making-of j l few k m .is) st;
-    gives = λ k xs place m st f c. made-finds4 l k (sizeOf (at (plan j) k)) (making-of j l few k m .is) st (eqb-true (formatOf (leadsTo (j .source) k)) 4 f) c;
+    alike = λ k xs place m st. made-format l k (madeSize (at (plan j) k)) (making-of j l few k m .is) st;
+    gives = λ k xs place m st f c. made-finds4 l k (madeSize (at (plan j) k)) (making-of j l few k m .is) st (eqb-true (formatOf (leadsTo (j .source) k)) 4 f) c;
   }
 
   pub plan-reads12 : Reads 12 lookup12 j (plan j)
   plan-reads12 = record {
-    alike = λ k xs place m st. made-format l k (sizeOf (at (plan j) k)) (making-of j l few k m .is) st;
-    gives = λ k xs place m st f c. made-finds12 l k (sizeOf (at (plan j) k)) (making-of j l few k m .is) st (eqb-true (formatOf (leadsTo (j .source) k)) 12 f) c;
+    alike = λ k xs place m st. made-format l k (madeSize (at (plan j) k)) (making-of j l few k m .is) st;
+    gives = λ k xs place m st f c. made-finds12 l k (madeSize (at (plan j) k)) (making-of j l few k m .is) st (eqb-true (formatOf (leadsTo (j .source) k)) 12 f) c;
   }

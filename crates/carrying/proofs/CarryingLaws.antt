@@ -11,7 +11,7 @@ use Rattle.plan.specs.Plan.{Prepared}
 use Rattle.plan.specs.Notes.{Endings}
 use Rattle.plan.proofs.PlanLaws.{prepared-again}
 use Rattle.table_places.specs.Counts.{Counts}
-use Rattle.writing.specs.Writing.{Planned as Written, Noted}
+use Rattle.writing.specs.Writing.{WritesPlan as Written, Noted}
 use Rattle.concluding.specs.Concluding.{Planned}
 use Rattle.carrying.specs.Carrying.{Enough}
 

@@ -9,7 +9,7 @@ use Rattle.plan.specs.Plan.{plan}
 use Rattle.result.specs.Refusal.{earlyRefusal}
 use Rattle.promised.specs.declared.Answer.{Answer}
 use Rattle.promised.specs.Cmap.{answerOf}
-use Rattle.concluding.specs.Concluding.{Planned, Settled, answerBy}
+use Rattle.concluding.specs.Concluding.{Planned, Concludes, answerBy}
 use Rattle.concluding.proofs.PassingLaws.{passes, planned, planned-settled}
 use Rattle.concluding.proofs.AnswerLaws.{answer-told}
 
@@ -17,7 +17,7 @@ module _ (s cs gs ks ms rs : List ℕ) (os : List Outcome) (n : ℕ) (e : os ≡
   pub worked-out : Planned (job s cs gs ks ms rs) os
   worked-out = planned s cs gs ks ms rs (passes s cs gs ks ms rs n f h) os e q
 
-  pub outcomes-settled : Settled s os
+  pub outcomes-settled : Concludes s os
   outcomes-settled = planned-settled s cs gs ks ms rs os worked-out
 
   pub answer-planned : (room : ℕ) (a : Answer) → a ≡ answerBy s os room → a ≡ answerOf (job s cs gs ks ms rs) room

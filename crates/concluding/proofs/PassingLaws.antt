@@ -12,7 +12,7 @@ use Rattle.plan.specs.Outcomes.{Small}
 use Rattle.plan.specs.Plan.{plan}
 use Rattle.result.specs.Refusal.{earlyRefusal}
 use Rattle.result.proofs.RefusalLaws.{early-passed}
-use Rattle.concluding.specs.Concluding.{Passing, Planned, Settled}
+use Rattle.concluding.specs.Concluding.{Passing, Planned, Concludes}
 
 module _ (s cs gs ks ms rs : List ℕ) where
   abbrev j : Job
@@ -31,7 +31,7 @@ module _ (s cs gs ks ms rs : List ℕ) where
     pub planned : (os : List Outcome) → os ≡ plan j → Small os → Planned j os
     planned os e q = record { passing = p; is = e; small = q }
 
-  pub planned-settled : (os : List Outcome) → Planned j os → Settled s os
+  pub planned-settled : (os : List Outcome) → Planned j os → Concludes s os
   planned-settled os p = record {
     counted = record { is = refl; inside = header (p .passing) .fits };
     few = header (p .passing) .few;
@@ -41,5 +41,5 @@ module _ (s cs gs ks ms rs : List ℕ) where
 pub ruleset passing = (passes, source-long, planned, planned-settled)
 
 -- the same for records alone
-pub settled-long : (s : List ℕ) (os : List Outcome) → Settled s os → 4 ≤ length s
+pub settled-long : (s : List ℕ) (os : List Outcome) → Concludes s os → 4 ≤ length s
 settled-long s os t = omega (arith, t .counted .inside)

@@ -27,7 +27,7 @@ pub record Planned (j : Job) (os : List Outcome) : Type 0 where
   pub small : Small os
 
 -- the records are all there, and each has an outcome
-pub record Settled (xs : List ℕ) (os : List Outcome) : Type 0 where
+pub record Concludes (xs : List ℕ) (os : List Outcome) : Type 0 where
   pub counted : Counted xs (recordCount xs)
   pub few : recordCount xs ≤ recordsMax
   pub small : Small os

@@ -5,7 +5,7 @@ ghost use mathlib.Core.Path.{_≡_};
 ghost use Prim.Native.Nat.{_≤_};
 ghost use lib.ListN.{length};
 ghost use Rattle.header.specs.Header.{recordCount};
-ghost use Rattle.concluding.specs.Concluding.{Settled, answerBy};
+ghost use Rattle.concluding.specs.Concluding.{Concludes, answerBy};
 
 pub fn record_count(s: &[u8]) -> usize
     requires { ⌜ 4 ≤ length (now s) ⌝ }
@@ -16,7 +16,7 @@ pub fn record_count(s: &[u8]) -> usize
 
 // The answer, where the output has room for so many bytes.
 pub fn answer_by(s: &[u8], os: [Outcome; 64], room: usize) -> Answer
-    requires { ⌜ Settled (now s) os ⌝ }
+    requires { ⌜ Concludes (now s) os ⌝ }
     ensures { λ r. ⌜ r ≡ answerBy (now (s .entry)) os room ⌝ }
 {
     let m = record_count(s);

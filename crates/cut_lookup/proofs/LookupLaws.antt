@@ -11,7 +11,7 @@ use borrow.Author.Tests.{le-leb, lt-leb, leb-true, leb-false, eq-eqb, ne-eqb, eq
 use Rattle.laws.specs.Choice.{pick}
 use Rattle.laws.specs.Lists.{Pair, pairs}
 use Rattle.laws.specs.Pieces.{concat}
-use Rattle.laws.specs.Listed.{listed}
+use Rattle.laws.specs.Listed.{listedAs}
 use Rattle.laws.specs.Linked.{Each, Filled, Linked}
 use Rattle.laws.proofs.ChoiceLaws.{by-pick, by-leb, false-true}
 use Rattle.laws.proofs.EitherLaws.{true-of-not}
@@ -112,8 +112,8 @@ module _ (x : Cut) (array : List ℕ) (a : Adjacent x) where
       go false d = told (eqb-false (x .delta) 0 d) k l
 
 module _ {A : Type 0} (none : A) (glyph : ℕ → A) where
-  listed-at : (ps qs : List Pair) (k : ℕ) → Linked nextCode ps → k < length ps → listed none glyph (ps ++ qs) (firstCode ps + k) ≡ glyph (getD (glyphs ps) k 0)
-  unfolding listed
+  listed-at : (ps qs : List Pair) (k : ℕ) → Linked nextCode ps → k < length ps → listedAs none glyph (ps ++ qs) (firstCode ps + k) ≡ glyph (getD (glyphs ps) k 0)
+  unfolding listedAs
   listed-at [] qs k h l = absurd h
   listed-at (p ∷ ps) qs zero h l = rw (eq-eqb (p .0) (p .0 + 0) (omega arith))
   listed-at (p ∷ []) qs (suc k) h l = absurd (omega arith)
@@ -123,7 +123,7 @@ module _ {A : Type 0} (none : A) (glyph : ℕ → A) where
       rw (ne-eqb (p .0) (p .0 + suc k) (λ z. omega arith), e) (listed-at (q ∷ ps) qs k (h .1) (omega arith))
 
   value-in : (x : Cut) (array : List ℕ) (rest : List Pair) → Adjacent x → Told x → (c : ℕ) → firstCode (x .pairs) ≤ c → c ≤ lastCode (x .pairs)
-      → glyph (valueIn (arrayOf x ++ array) (segmentOf x) c) ≡ listed none glyph (x .pairs ++ rest) c
+      → glyph (valueIn (arrayOf x ++ array) (segmentOf x) c) ≡ listedAs none glyph (x .pairs ++ rest) c
   value-in x array rest a told c f l =
       let n = linked-length (x .pairs) a in
       let k = c - firstCode (x .pairs) in
@@ -146,7 +146,7 @@ module _ {A : Type 0} (none : A) (glyph : ℕ → A) (c : ℕ) (small : c < 6553
 
   -- where no closing segment follows, the last end reaches c
   cuts-find : (cs : List Cut) (t : Bool) → (t ≡ false → c ≤ lastEnd (map segmentOf cs)) → Climbs (codes (concat (parts cs))) → Each Adjacent cs → Each Told cs → Each Fit cs
-      → lookupIn none glyph (concat (map arrayOf cs)) (map segmentOf cs ++ closing t) c ≡ listed (unlisted none glyph c) glyph (concat (parts cs)) c
+      → lookupIn none glyph (concat (map arrayOf cs)) (map segmentOf cs ++ closing t) c ≡ listedAs (unlisted none glyph c) glyph (concat (parts cs)) c
   unfolding lookupIn concat
   cuts-find [] true z r a d f = closing-finds [] ∙ sym (listed-none (unlisted none glyph c) glyph [] c tt)
   cuts-find [] false z r a d f = let l = z refl in rw (listed-none (unlisted none glyph c) glyph [] c tt, ne-eqb c 65535 (λ e. omega arith))
@@ -154,7 +154,7 @@ module _ {A : Type 0} (none : A) (glyph : ℕ → A) (c : ℕ) (small : c < 6553
       let ps = x .pairs in
       let rest = concat (parts cs) in
       let array = concat (map arrayOf cs) in
-      let P : A → Type 0 = λ n. n ≡ listed (unlisted none glyph c) glyph (ps ++ rest) c in
+      let P : A → Type 0 = λ n. n ≡ listedAs (unlisted none glyph c) glyph (ps ++ rest) c in
       let value = glyph (valueIn (arrayOf x ++ array) (segmentOf x) c) in
       by-pick P (leb c (lastCode ps)) (pick (leb (firstCode ps) c) value none) (lookupIn none glyph (drop (entriesOf (segmentOf x)) (arrayOf x ++ array)) (map segmentOf cs ++ closing t) c)
       (λ e. by-pick P (leb (firstCode ps) c) value none
@@ -169,7 +169,7 @@ module _ {A : Type 0} (none : A) (glyph : ℕ → A) (c : ℕ) (small : c < 6553
       (cuts-find cs t (λ k. reach-next (segmentOf x) (map segmentOf cs) (z k) l) (climbs-right (codes ps) (codes rest) (rw (map-append (λ (p : Pair). p .0) ps rest) at r)) (a .1) (d .1) (f .1)))
 
   -- the key fact: a code point is found with its listed glyph; none is found where none is listed, but at 0xFFFF glyph 0
-  pub segments-find : (ps : List Pair) → Listed ps → lookupIn none glyph (glyphArray ps) (segments ps) c ≡ listed (unlisted none glyph c) glyph ps c
+  pub segments-find : (ps : List Pair) → Listed ps → lookupIn none glyph (glyphArray ps) (segments ps) c ≡ listedAs (unlisted none glyph c) glyph ps c
   unfolding glyphArray segments
   segments-find ps l =
       let r = rising-climbs (codes ps) (l .rising) in

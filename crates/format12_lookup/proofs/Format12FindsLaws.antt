@@ -4,7 +4,7 @@ use mathlib.Core.Path.{_≡_, ap, _∙_}
 use mathlib.Core.List.{List}
 use native.Mathlib.Omega.{arith}
 use Rattle.laws.specs.Lists.{Pair}
-use Rattle.laws.specs.Listed.{listed, listedGlyph}
+use Rattle.laws.specs.Listed.{listedAs, listedGlyph}
 use Rattle.laws.proofs.ListedLaws.{listed-ap}
 use Rattle.laws.proofs.StandsLaws.{Stands}
 use Rattle.source.proofs.KindLaws.{lengthOf}
@@ -20,7 +20,7 @@ module _ (language : ℕ) (ps : List Pair) (h : language < 4294967296) (a : Abov
   abbrev T : List ℕ
   T = format12 language ps
 
-  pub format12-gives : (c : ℕ) → lookup.lookup12 T 0 c ≡ listed Nothing Glyph ps c
+  pub format12-gives : (c : ℕ) → lookup.lookup12 T 0 c ≡ listedAs Nothing Glyph ps c
   unfolding lookup.lookup12
   format12-gives c = rw (format12-kind language ps h a) (format12-lookup language ps c a)
 
@@ -29,7 +29,7 @@ module _ (language : ℕ) (ps : List Pair) (h : language < 4294967296) (a : Abov
 
   -- wherever it stands
   module _ {xs : List ℕ} {at : ℕ} (st : Stands xs at T) (c : ℕ) where
-    pub format12-gives-stands : lookup.lookup12 xs at c ≡ listed Nothing Glyph ps c
+    pub format12-gives-stands : lookup.lookup12 xs at c ≡ listedAs Nothing Glyph ps c
     format12-gives-stands = lookup12-stands st (omega (arith, length-is language ps)) (ap lengthOf (format12-kind language ps h a)) c ∙ format12-gives c
 
     -- the key fact: every number is found with its listed glyph, and with 0 where none is listed

@@ -8,7 +8,7 @@ use lib.Dec.{leb}
 use lib.ListN.{length, getD}
 use Rattle.laws.specs.Choice.{ifLt}
 use Rattle.laws.specs.Lists.{Pair}
-use Rattle.laws.specs.Listed.{listed}
+use Rattle.laws.specs.Listed.{listedAs}
 use Rattle.laws.specs.Search.{first}
 use Rattle.laws.proofs.BranchLaws.{if-lt-same}
 use Rattle.laws.proofs.ChoiceLaws.{by-leb, if-lt, else-lt}
@@ -54,7 +54,7 @@ module _ (c : ℕ) (d : Group) where
       rw (e, lookup-first gs)
       (if-lt-same k n (lookup.inGroup xs at k c) Nothing (inGroup (getD gs k d) c) Nothing (λ l. group-same xs at k ∙ rw (h k l)) (λ l. refl))
 
-pub format12-lookup : (language : ℕ) (ps : List Pair) (c : ℕ) → Above 0 ps → lookup.find12 (format12 language ps) 0 (length (groups ps)) c ≡ listed Nothing Glyph ps c
+pub format12-lookup : (language : ℕ) (ps : List Pair) (c : ℕ) → Above 0 ps → lookup.find12 (format12 language ps) 0 (length (groups ps)) c ≡ listedAs Nothing Glyph ps c
 format12-lookup language ps c a =
     let d = group 0 0 0 in
     bytes-lookup c d (format12 language ps) 0 (groups ps) (λ k h. format12-group language ps a k d h) ∙ lookup-groups c a

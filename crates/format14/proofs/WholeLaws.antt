@@ -19,7 +19,7 @@ use Rattle.number.specs.BigEndian.{be, Num}
 use Rattle.number.proofs.BigEndianLaws.{length-enc}
 use Rattle.format14.specs.SelectorRecords.{usedRecords, recordAt, header14, Distances}
 use Rattle.format14.proofs.SelectorRecordsLaws.{records-size}
-use Rattle.format14.specs.Selectors.{Given, given, refused8}
+use Rattle.format14.specs.Selectors.{Given, given, namesMissing}
 use Rattle.format14.specs.ByNumber.{slot, Readable}
 use Rattle.format14.specs.declared.Outcome.{Outcome}
 use Rattle.format14.specs.declared.Outcome.the-variants.{Refused8, Empty, Length}
@@ -69,7 +69,7 @@ module _ (xs : List ℕ) (at len : ℕ) (kept map requested : List ℕ) (n : ℕ
 
   -- ---- the outcome
 
-  module _ (tail : ℕ) (refused : Bool) (e : Ends (slot g) (2 * n) ends) (t : Total (slot g) (2 * n) tail) (b : refused ≡ refused8 g) where
+  module _ (tail : ℕ) (refused : Bool) (e : Ends (slot g) (2 * n) ends) (t : Total (slot g) (2 * n) tail) (b : refused ≡ namesMissing g) where
     pub all-ends : Ends (slot g) (2 * be 4 xs (at + 6)) ends
     all-ends = rw (u .is) at e
 
@@ -165,7 +165,7 @@ tag (Length n) = 2
 pub outcome-says : (g : Given) (n : ℕ) → Length n ≡ outcome g → n ≡ length (format14 (rows g))
 unfolding outcome
 outcome-says g n e =
-    by-test (n ≡ length (format14 (rows g))) (refused8 g)
+    by-test (n ≡ length (format14 (rows g))) (namesMissing g)
     (λ r.
     let wrong = ap tag (rw r at e) in
     absurd (omega (arith, wrong)))

@@ -13,7 +13,7 @@ use Rattle.number.specs.BigEndian.{be}
 use Rattle.uvs.specs.Checksum.{checksum}
 use Rattle.uvs.specs.Tables.{counts}
 use Rattle.format14.specs.Streams.{CodePoints}
-use Rattle.format14.specs.Selectors.{Given, keepsSelector, defaultTable, nonDefaultTable, badKept}
+use Rattle.format14.specs.Selectors.{Given, keepsSelector, defaultTable, nonDefaultTable, badKeptRecord}
 
 -- new table t: none where the selector is not kept
 unfoldable pub slot : Given → ℕ → List ℕ
@@ -21,7 +21,7 @@ slot g t = pick (keepsSelector g (t / 2)) (pick (eqb (t % 2) 0) (defaultTable g 
 
 -- refusal 8 for it, which a non-default table alone can bring
 unfoldable pub badSlot : Given → ℕ → Bool
-badSlot g t = pick (eqb (t % 2) 0) false (badKept g (t / 2))
+badSlot g t = pick (eqb (t % 2) 0) false (badKeptRecord g (t / 2))
 
 -- the offset that the source's selector record gives table t
 unfoldable pub tableOffset : List ℕ → ℕ → ℕ → ℕ

@@ -8,7 +8,7 @@ use Rattle.laws.specs.Pieces.{concat}
 use Rattle.laws.specs.Select.{select, flat}
 use Rattle.laws.specs.Lasts.{lasts, before}
 use Rattle.number.specs.BigEndian.{enc}
-use Rattle.format14.specs.Selectors.{Given, selectorRecords, varSelector, keptRecords, defaultTable, nonDefaultTable, there, one, refused8}
+use Rattle.format14.specs.Selectors.{Given, selectorRecords, varSelector, keptRecords, defaultTable, nonDefaultTable, there, one, namesMissing}
 use Rattle.format14.specs.declared.Outcome.{Outcome}
 use Rattle.format14.specs.declared.Outcome.the-variants.{Refused8, Empty, Length}
 
@@ -73,7 +73,7 @@ sizeOf [] = Empty
 sizeOf (r ∷ rs) = Length (lengthOf (r ∷ rs))
 
 unfoldable pub outcome : Given → Outcome
-outcome g = pick (refused8 g) Refused8 (sizeOf (rows g))
+outcome g = pick (namesMissing g) Refused8 (sizeOf (rows g))
 
 -- the number of refusal, 0 for none, and the length of what is to be written
 abbrev pub refusalOf : Outcome → ℕ

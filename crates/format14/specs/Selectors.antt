@@ -73,9 +73,9 @@ badRecord g k =
     both (countsNonDefault (g .source) (g .start) (g .size) (nonDefaultOffset g k))
     (badMapping (g .source) (g .start + nonDefaultOffset g k) (g .kept) (g .glyphs) (g .requested))
 
-abbrev pub badKept : Given → ℕ → Bool
-badKept g k = both (keepsSelector g k) (badRecord g k)
+abbrev pub badKeptRecord : Given → ℕ → Bool
+badKeptRecord g k = both (keepsSelector g k) (badRecord g k)
 
 -- refusal 8: a kept selector record has a mapping to be kept that names a missing glyph
-abbrev pub refused8 : Given → Bool
-refused8 g = anyOf (badRecord g) (keptRecords g (selectorRecords g) 0)
+abbrev pub namesMissing : Given → Bool
+namesMissing g = anyOf (badRecord g) (keptRecords g (selectorRecords g) 0)

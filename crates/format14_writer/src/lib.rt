@@ -6,7 +6,7 @@ ghost use lib.ListN.{length};
 ghost use lib.Seq.{sets};
 ghost use Rattle.laws.specs.Pieces.{concat};
 ghost use Rattle.number.specs.BigEndian.{be};
-ghost use Rattle.format14.specs.Selectors.{given, refused8};
+ghost use Rattle.format14.specs.Selectors.{given, namesMissing};
 ghost use Rattle.format14.specs.ByNumber.{slot, Readable, All};
 ghost use Rattle.format14.specs.Ends.{Written, Ends, Total};
 ghost use Rattle.format14.specs.Format14.{rows, lengthOf, format14, outcome, lengthIn};
@@ -34,7 +34,7 @@ fn lay_out(
     requires { ⌜ Readable (now s) at len (now kept) (now requested) ⌝ }
     requires { ⌜ All (now s) at (now kept) (now flags) m (now others) ⌝ }
     requires { ⌜ m ≤ length (now ends) ⌝ }
-    ensures { λ r. ⌜ r .refused ≡ refused8 (given (now (s .entry)) at len (now (kept .entry)) (now (map .entry)) (now (requested .entry))) ⌝ }
+    ensures { λ r. ⌜ r .refused ≡ namesMissing (given (now (s .entry)) at len (now (kept .entry)) (now (map .entry)) (now (requested .entry))) ⌝ }
     ensures { λ _. ⌜ Ends (slot (given (now (s .entry)) at len (now (kept .entry)) (now (map .entry)) (now (requested .entry)))) m (now (ends .exit)) ⌝ }
     ensures { λ r. ⌜ Total (slot (given (now (s .entry)) at len (now (kept .entry)) (now (map .entry)) (now (requested .entry)))) m (r .tail) ⌝ }
 {

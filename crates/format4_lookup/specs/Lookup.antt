@@ -3,7 +3,7 @@ use Prim.Native.Nat.{ℕ, _≤_, _<_}
 use mathlib.Core.List.{List}
 use lib.ListN.{length}
 use Rattle.laws.specs.Lists.{Pair}
-use Rattle.laws.specs.Listed.{listed}
+use Rattle.laws.specs.Listed.{listedAs}
 use Rattle.lookup.specs.declared.Found.{Found}
 use Rattle.lookup.specs.declared.Found.the-variants.{Nothing, Glyph}
 use Rattle.format4.specs.Format4.{format4}
@@ -16,4 +16,4 @@ pub record Written (language : ℕ) (ps : List Pair) : Type 0 where
 
 -- for every number the listed glyph; where none is listed nothing, but at 0xFFFF, which the last segment holds, glyph 0
 abbrev pub foundIn : List Pair → ℕ → Found
-foundIn ps c = listed (unlisted Nothing Glyph c) Glyph ps c
+foundIn ps c = listedAs (unlisted Nothing Glyph c) Glyph ps c

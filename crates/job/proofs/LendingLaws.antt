@@ -8,11 +8,11 @@ use Rattle.laws.proofs.TakeLaws.{take-counts}
 use Rattle.listing.specs.Job.{Job, job}
 use Rattle.job_input.specs.declared.Places.{Places}
 use Rattle.job_input.specs.Job.{jobAt}
-use Rattle.job_lists.specs.Lent.{Front, Lent}
+use Rattle.job_lists.specs.Lent.{AtFront, Lent}
 use Rattle.promised.specs.declared.Answer.{Answer}
 use Rattle.promised.specs.Cmap.{answerOf, outputOf}
 
-front-length : (n : ℕ) (buffer list : List ℕ) → Front n buffer list → n ≡ length (take n buffer)
+front-length : (n : ℕ) (buffer list : List ℕ) → AtFront n buffer list → n ≡ length (take n buffer)
 front-length n buffer list f = take-counts n buffer (f .room)
 
 module _ (xs : List ℕ) (p : Places) (cs gs ks ms rs : List ℕ) (f : Lent xs p cs gs ks ms rs) where

@@ -11,12 +11,12 @@ use Rattle.job_input.specs.declared.Places.{Places}
 use Rattle.job_input.specs.declared.Located.the-variants.{At}
 use Rattle.job_input.specs.Column.{column}
 use Rattle.job_input.specs.Job.{located, jobAt, parse, jobOf}
-use Rattle.job_lists.specs.Lent.{Front, Lent}
+use Rattle.job_lists.specs.Lent.{AtFront, Lent}
 use Rattle.job_input.proofs.ColumnLaws.{length-column}
 use Rattle.job_input.proofs.JobLaws.{placed, job-at}
 
 module _ (w stride : ℕ) (xs : List ℕ) (at n : ℕ) (buffer : List ℕ) where
-  front-column : n ≤ length buffer → Front n (sets buffer 0 (column w stride xs at n)) (column w stride xs at n)
+  front-column : n ≤ length buffer → AtFront n (sets buffer 0 (column w stride xs at n)) (column w stride xs at n)
   front-column h =
       let l = length-column w stride xs at n in
       record {
@@ -28,7 +28,7 @@ module _ (xs : List ℕ) (p : Places) (e : located xs ≡ At p) where
   -- one list of the job: where its numbers stand, and the array before and after
   front : (part : Job → List ℕ) (w stride at n : ℕ) → part (jobAt xs p) ≡ column w stride xs at n
       → (most : ℕ) (buffer buffer′ : List ℕ) → n ≤ most → most ≤ length buffer → buffer′ ≡ sets buffer 0 (part (jobOf (parse xs)))
-      → Front n buffer′ (part (jobAt xs p))
+      → AtFront n buffer′ (part (jobAt xs p))
   front part w stride at n q most buffer buffer′ a b h =
       rw (h, job-at xs p e, q) (front-column w stride xs at n buffer (omega (arith, a, b)))
 

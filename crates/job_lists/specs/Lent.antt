@@ -14,15 +14,15 @@ pub record Fits (w stride : ℕ) (xs : List ℕ) (at n : ℕ) (out : List ℕ) :
 -- ---- arrays that were filled
 
 -- the first n places hold the list
-pub record Front (n : ℕ) (buffer list : List ℕ) : Type 0 where
+pub record AtFront (n : ℕ) (buffer list : List ℕ) : Type 0 where
   pub room : n ≤ length buffer
   pub is : take n buffer ≡ list
 
 -- each list of the job, in as many places as its record has entries; the source stands in the bytes
 pub record Lent (xs : List ℕ) (p : Places) (cs gs ks ms rs : List ℕ) : Type 0 where
   pub source : p .source .at + p .source .count ≤ length xs
-  pub codes : Front (p .pairs .count) cs (jobAt xs p .codes)
-  pub glyphs : Front (p .pairs .count) gs (jobAt xs p .glyphs)
-  pub kept : Front (p .kept .count) ks (jobAt xs p .kept)
-  pub map : Front (p .map .count) ms (jobAt xs p .newGlyphs)
-  pub requested : Front (p .requested .count) rs (jobAt xs p .requested)
+  pub codes : AtFront (p .pairs .count) cs (jobAt xs p .codes)
+  pub glyphs : AtFront (p .pairs .count) gs (jobAt xs p .glyphs)
+  pub kept : AtFront (p .kept .count) ks (jobAt xs p .kept)
+  pub map : AtFront (p .map .count) ms (jobAt xs p .newGlyphs)
+  pub requested : AtFront (p .requested .count) rs (jobAt xs p .requested)

@@ -11,7 +11,7 @@ use Rattle.records.proofs.RecordsLaws.{placed}
 use Rattle.plan.specs.declared.Outcome.{Outcome}
 use Rattle.plan.specs.declared.Outcome.the-variants.{NotRetained}
 use Rattle.plan.specs.Outcomes.{isBad}
-use Rattle.plan.specs.Plan.{refused9, counts}
+use Rattle.plan.specs.Plan.{refused9, madePlain}
 use Rattle.late_refusals.specs.Inside.{Inside}
 
 abbrev pub bad : List Outcome → ℕ → Bool
@@ -21,12 +21,12 @@ pub inside : (xs : List ℕ) (m k : ℕ) → Counted xs m → m ≤ 64 → k < m
 inside xs m k c f h = record { here = placed xs m k c h; below = omega arith }
 
 module _ (xs : List ℕ) (m : ℕ) (os : List Outcome) (k : ℕ) where
-  pub lacks-no : (t : Bool) → Counted xs m → Asking (counts xs os) m k → k < m → t ≡ counts xs os k → t ≡ true → false ≡ refused9 xs os
+  pub lacks-no : (t : Bool) → Counted xs m → Asking (madePlain xs os) m k → k < m → t ≡ madePlain xs os k → t ≡ true → false ≡ refused9 xs os
   unfolding refused9
-  lacks-no t c l h q e = ap not (rw (c .is) at (asking-yes (counts xs os) m k t l h q e))
+  lacks-no t c l h q e = ap not (rw (c .is) at (asking-yes (madePlain xs os) m k t l h q e))
 
-  pub lacks-yes : Counted xs m → Asking (counts xs os) m k → m ≤ k → true ≡ refused9 xs os
+  pub lacks-yes : Counted xs m → Asking (madePlain xs os) m k → m ≤ k → true ≡ refused9 xs os
   unfolding refused9
-  lacks-yes c l h = ap not (rw (c .is) at (asking-no (counts xs os) m k l h))
+  lacks-yes c l h = ap not (rw (c .is) at (asking-no (madePlain xs os) m k l h))
 
 pub ruleset lacking = (asking-start, asking-on, lacks-no, lacks-yes, inside)

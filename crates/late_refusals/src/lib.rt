@@ -4,7 +4,7 @@ ghost use mathlib.Core.Path.{_≡_};
 ghost use Prim.Native.Nat.{_≤_};
 ghost use Rattle.laws.specs.Choice.{either};
 ghost use Rattle.records.specs.Records.{leadsToFormat, Placed, Counted};
-ghost use Rattle.plan.specs.Plan.{refused8, refused9, counts};
+ghost use Rattle.plan.specs.Plan.{refused8, refused9, madePlain};
 ghost use Rattle.result.specs.Refusal.{lateRefusal};
 ghost use Rattle.late_refusals.specs.Inside.{Inside};
 
@@ -25,7 +25,7 @@ fn names_missing(os: [Outcome; 64]) -> bool
 // Whether record k made a format 4 or 12 table.
 fn counts(s: &[u8], os: [Outcome; 64], k: usize) -> bool
     requires { ⌜ Inside (now s) k ⌝ }
-    ensures { λ r. ⌜ r ≡ counts (now (s .entry)) os k ⌝ }
+    ensures { λ r. ⌜ r ≡ madePlain (now (s .entry)) os k ⌝ }
 {
     if outcome_tests::is_made(os[k]) {
         return is_plain(s, k);

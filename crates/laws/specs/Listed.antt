@@ -6,10 +6,10 @@ use Rattle.laws.specs.Choice.{pick}
 use Rattle.laws.specs.Lists.{Pair}
 
 -- the glyph of the pair whose code point is c
-unfoldable pub listed : {A : Type 0} → A → (ℕ → A) → List Pair → ℕ → A
-listed none glyph [] c = none
-listed none glyph (p ∷ ps) c = let r = listed none glyph ps c in pick (eqb (p .0) c) (glyph (p .1)) r
+unfoldable pub listedAs : {A : Type 0} → A → (ℕ → A) → List Pair → ℕ → A
+listedAs none glyph [] c = none
+listedAs none glyph (p ∷ ps) c = let r = listedAs none glyph ps c in pick (eqb (p .0) c) (glyph (p .1)) r
 
 -- as a number: 0 where none is listed
 abbrev pub listedGlyph : List Pair → ℕ → ℕ
-listedGlyph ps c = listed 0 (λ (g : ℕ). g) ps c
+listedGlyph ps c = listedAs 0 (λ (g : ℕ). g) ps c

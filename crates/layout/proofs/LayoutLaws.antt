@@ -7,7 +7,7 @@ use native.Mathlib.Omega.{arith}
 use lib.ListN.{getD}
 use Rattle.plan.specs.declared.Outcome.{Outcome}
 use Rattle.plan.specs.declared.Outcome.the-variants.{NotRetained}
-use Rattle.plan.specs.Outcomes.{sizeOf, Small}
+use Rattle.plan.specs.Outcomes.{madeSize, Small}
 use Rattle.result.specs.Result.{isWritten, countFrom, sizesFrom}
 
 -- ---- counts
@@ -55,7 +55,7 @@ pub adding-start : (os : List Outcome) (k : ℕ) → k ≤ 64 → Adding os k 0 
 adding-start os k h = record { from = omega arith; within = h; few = omega arith; left = omega arith }
 
 module _ (os : List Outcome) (k n i : ℕ) (l : Adding os k n i) where
-  pub adding-on : (size : ℕ) → Small os → i < 64 → size ≡ sizeOf (getD os i NotRetained) → Adding os k (n + size) (i + 1)
+  pub adding-on : (size : ℕ) → Small os → i < 64 → size ≡ madeSize (getD os i NotRetained) → Adding os k (n + size) (i + 1)
   unfolding sizesFrom
   adding-on size s h e =
       let m : 64 - i ≡ suc (64 - (i + 1)) = omega arith in

@@ -2,7 +2,7 @@
 use plan::Outcome;
 ghost use mathlib.Core.Path.{_≡_};
 ghost use Prim.Native.Nat.{_*_, _-_, _≤_};
-ghost use Rattle.plan.specs.Outcomes.{sizeOf, Small};
+ghost use Rattle.plan.specs.Outcomes.{madeSize, Small};
 ghost use Rattle.result.specs.Result.{isWritten, makerOf, sizesFrom, written};
 
 pub fn is_written(o: Outcome) -> bool
@@ -21,7 +21,7 @@ pub fn is_written(o: Outcome) -> bool
 }
 
 pub fn size_of(o: Outcome) -> usize
-    ensures { λ r. ⌜ r ≡ sizeOf o ⌝ }
+    ensures { λ r. ⌜ r ≡ madeSize o ⌝ }
 {
     match o {
         Outcome::NotRetained => 0,

@@ -104,15 +104,14 @@ module _ (xs : List ℕ) (k n : ℕ) (cs gs fs ms tocs togs : List ℕ)
       let y = kept-front ms gs (length cs) r (sym (c .even)) there e h in
       record {
         counted = take-counts r cs w ∙ ap length (sym x) ∙ listed-count (length (kept ms cs)) refl;
-        within = w;
-        lent = λ z. sym kept-pairs ∙ rw (x, y);
+        first = record { within = w; is = λ z. sym kept-pairs ∙ rw (x, y) };
       }
 
   pub front-copies : (r : ℕ) → 0 < r → Copied L r tocs togs tocs togs
   front-copies r h = record { codes = λ e. absurd (omega arith); glyphs = λ e. absurd (omega arith) }
 
   pub listed-none : (m : ℕ) → m ≡ length (kept ms cs) → Lists L cs gs m 0
-  listed-none m e = record { counted = listed-count m e; within = omega arith; lent = λ z. absurd (omega arith) }
+  listed-none m e = record { counted = listed-count m e; first = record { within = omega arith; is = λ z. absurd (omega arith) } }
 
   pub listed-copies : (ncs ngs : List ℕ) → ncs ≡ sets tocs 0 (kept ms cs) → ngs ≡ sets togs 0 (kept ms gs) → Copied L 0 tocs togs ncs ngs
   listed-copies ncs ngs x y = record { codes = λ e. listed-codes ncs x; glyphs = λ e. listed-glyphs ngs y }

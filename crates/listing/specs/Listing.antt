@@ -56,11 +56,15 @@ pub record Columns (cs gs tocs togs : List ℕ) : Type 0 where
   pub codes : length cs ≤ length tocs
   pub glyphs : length gs ≤ length togs
 
+-- the pairs are the first ones of two columns, so many of them; where that is 0, nothing is said
+pub record First (L : List Pair) (cs gs : List ℕ) (front : ℕ) : Type 0 where
+  pub within : front ≤ length cs
+  pub is : 0 < front → L ≡ pairs (take front cs) (take front gs)
+
 -- how many pairs are listed, and how many of the columns' first ones they are; 0 where they are not the first ones, or there are none
 pub record Lists (L : List Pair) (cs gs : List ℕ) (count front : ℕ) : Type 0 where
   pub counted : count ≡ length L
-  pub within : front ≤ length cs
-  pub lent : 0 < front → L ≡ pairs (take front cs) (take front gs)
+  pub first : First L cs gs front
 
 -- those that are not the first ones are copied to the front of two other columns
 pub record Copied (L : List Pair) (front : ℕ) (tocs togs ncs ngs : List ℕ) : Type 0 where

@@ -14,7 +14,7 @@ use Rattle.laws.proofs.ChoiceLaws.{by-pick, by-leb, both-left, both-right}
 use Rattle.laws.proofs.EitherLaws.{either-none}
 use Rattle.laws.proofs.RisingLaws.{rising-tail, rising-lt}
 use Rattle.laws.proofs.FrontLaws.{rising-above}
-use Rattle.marks.specs.Marks.{below, passed, listed, holds, Bound, Inside, Halving, AtLeast}
+use Rattle.marks.specs.Marks.{below, passed, listedWhole, holds, Bound, Inside, Halving, AtLeast}
 
 -- ---- below
 
@@ -201,8 +201,8 @@ module _ (ps : List ℕ) (start end near : ℕ) where
     pub ends : near + (end - start) < length ps
     pub last : getD ps (near + (end - start)) 0 ≡ end
 
-  pub listed-says : (b : Bool) → b ≡ listed ps start end near → b ≡ true → Listed
-  unfolding listed
+  pub listed-says : (b : Bool) → b ≡ listedWhole ps start end near → b ≡ true → Listed
+  unfolding listedWhole
   listed-says b q t =
       let e = sym q ∙ t in
       let t₅ = eqb (getD ps (near + (end - start)) 0) end in
@@ -222,12 +222,12 @@ module _ (ps : List ℕ) (start end near : ℕ) where
         last = eqb-true (getD ps (near + (end - start)) 0) end (both-right t₄ t₅ e₄);
       }
 
-  pub listed-low : (b : Bool) → b ≡ listed ps start end near → b ≡ true → Rising ps → Bound ps start near
+  pub listed-low : (b : Bool) → b ≡ listedWhole ps start end near → b ≡ true → Rising ps → Bound ps start near
   listed-low b q e r =
       let l = listed-says b q e in
       place-low ps start near r (l .starts) (l .first)
 
-  pub listed-high : (b : Bool) → b ≡ listed ps start end near → b ≡ true → Rising ps → Bound ps (end + 1) (near + (end - start) + 1)
+  pub listed-high : (b : Bool) → b ≡ listedWhole ps start end near → b ≡ true → Rising ps → Bound ps (end + 1) (near + (end - start) + 1)
   listed-high b q e r =
       let l = listed-says b q e in
       place-high ps end (near + (end - start)) r (l .ends) (l .last)

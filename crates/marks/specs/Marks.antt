@@ -28,8 +28,8 @@ unfoldable pub passed : List ℕ → ℕ → ℕ → ℕ → Bool
 passed ps start end near = both (leb near (below ps start)) (leb (below ps (end + 1)) near)
 
 -- whether start stands at near, and end as many places on as it is above start
-unfoldable pub listed : List ℕ → ℕ → ℕ → ℕ → Bool
-listed ps start end near =
+unfoldable pub listedWhole : List ℕ → ℕ → ℕ → ℕ → Bool
+listedWhole ps start end near =
     both (leb start end)
     (both (ltb near (length ps))
     (both (eqb (getD ps near 0) start)

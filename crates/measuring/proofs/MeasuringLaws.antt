@@ -15,7 +15,7 @@ use Rattle.laws.proofs.EitherLaws.{either-none}
 use Rattle.laws.proofs.SelectLaws.{any-select}
 use Rattle.number.specs.BigEndian.{be}
 use Rattle.uvs.specs.Checksum.{checksum}
-use Rattle.format14.specs.Selectors.{Given, given, keepsSelector, badRecord, badKept, refused8}
+use Rattle.format14.specs.Selectors.{Given, given, keepsSelector, badRecord, badKeptRecord, namesMissing}
 use Rattle.format14.specs.ByNumber.{slot, badSlot, Source, Readable, All, Size, Lengths, Sums, tableMax}
 use Rattle.format14.proofs.ByNumberLaws.{slot-like, bad-like}
 use Rattle.measuring.specs.Measuring.{Sources, Earlier, Refused}
@@ -50,7 +50,7 @@ module _ (p : ℕ → Bool) where
       rw (some-has t u (i + 1) (omega arith) (rw next at e)) (either-true (p i))
 
 -- the tables of n records from k on, asked in place of the records
-refused-pairs : (g : Given) (n k : ℕ) → some (badSlot g) (2 * n) (2 * k) ≡ some (badKept g) n k
+refused-pairs : (g : Given) (n k : ℕ) → some (badSlot g) (2 * n) (2 * k) ≡ some (badKeptRecord g) n k
 unfolding some badSlot
 refused-pairs g zero k = refl
 refused-pairs g (suc n) k =
@@ -152,7 +152,7 @@ module _ (xs : List ℕ) (at len : ℕ) (kept : List ℕ) (ps : List ℕ) where
 
 -- all tables are asked
 pub refused-all : (xs : List ℕ) (at len : ℕ) (kept map requested flags others : List ℕ) (m t : ℕ) (b : Bool) (ls ss : List ℕ) → All xs at kept flags m others
-    → Measuring (slot (given xs at len kept map requested)) m t ls ss → Refused (given xs at len kept map requested) t b → m ≤ t → b ≡ refused8 (given xs at len kept map requested)
+    → Measuring (slot (given xs at len kept map requested)) m t ls ss → Refused (given xs at len kept map requested) t b → m ≤ t → b ≡ namesMissing (given xs at len kept map requested)
 refused-all xs at len kept map requested flags others m t b ls ss a p r h =
     let g = given xs at len kept map requested in
     let n = be 4 xs (at + 6) in

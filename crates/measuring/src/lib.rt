@@ -3,7 +3,7 @@ ghost use mathlib.Core.Path.{_≡_};
 ghost use Prim.Native.Nat.{_+_, _%_, _≤_};
 ghost use lib.ListN.{length};
 ghost use Rattle.uvs.specs.Checksum.{checksum};
-ghost use Rattle.format14.specs.Selectors.{given, refused8};
+ghost use Rattle.format14.specs.Selectors.{given, namesMissing};
 ghost use Rattle.format14.specs.ByNumber.{slot, Source, Readable, Numbered, All, Size, Lengths, Sums};
 ghost use Rattle.measuring.specs.Measuring.{Sources, Earlier, Refused};
 
@@ -97,7 +97,7 @@ pub fn measure(
     requires { ⌜ Readable (now s) at len (now kept) (now requested) ⌝ }
     requires { ⌜ All (now s) at (now kept) (now flags) m (now flags) ⌝ }
     requires { ⌜ (m ≤ length (now lengths)) × (m ≤ length (now sums)) ⌝ }
-    ensures { λ r. ⌜ r ≡ refused8 (given (now (s .entry)) at len (now (kept .entry)) (now (map .entry)) (now (requested .entry))) ⌝ }
+    ensures { λ r. ⌜ r ≡ namesMissing (given (now (s .entry)) at len (now (kept .entry)) (now (map .entry)) (now (requested .entry))) ⌝ }
     ensures { λ _. ⌜ Lengths (slot (given (now (s .entry)) at len (now (kept .entry)) (now (map .entry)) (now (requested .entry)))) m (now (lengths .exit)) ⌝ }
     ensures { λ _. ⌜ Sums (slot (given (now (s .entry)) at len (now (kept .entry)) (now (map .entry)) (now (requested .entry)))) m (now (sums .exit)) ⌝ }
 {

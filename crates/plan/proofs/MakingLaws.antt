@@ -90,7 +90,7 @@ module _ (xs : List ℕ) (k n : ℕ) (cs gs fs tocs togs : List ℕ) (p : Pairs 
   -- one or the other
   module _ (count front : ℕ) (l : Lists L cs gs count front) where
     pub noted : Fronts xs n cs gs k front
-    noted = record { within = l .within; is = l .lent }
+    noted = l .first
 
     module _ (h : 0 < front) where
       pub first : Holds front cs gs L

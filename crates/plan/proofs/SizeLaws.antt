@@ -4,9 +4,9 @@ use mathlib.Core.Bool.{true, false}
 use Rattle.laws.proofs.ChoiceLaws.{false-true}
 use Rattle.plan.specs.declared.Outcome.{Outcome}
 use Rattle.plan.specs.declared.Outcome.the-variants.{NotRetained, Skipped, Empty, TooLong, Covered, BadMapping, Served, Made}
-use Rattle.plan.specs.Outcomes.{isMade, sizeOf}
+use Rattle.plan.specs.Outcomes.{isMade, madeSize}
 
-pub made-size : (o : Outcome) → isMade o ≡ true → o ≡ Made (sizeOf o)
+pub made-size : (o : Outcome) → isMade o ≡ true → o ≡ Made (madeSize o)
 made-size NotRetained e = absurd (false-true e)
 made-size Skipped e = absurd (false-true e)
 made-size Empty e = absurd (false-true e)
@@ -16,7 +16,7 @@ made-size BadMapping e = absurd (false-true e)
 made-size (Served r) e = absurd (false-true e)
 made-size (Made n) e = refl
 
-pub unmade-size : (o : Outcome) → isMade o ≡ false → sizeOf o ≡ 0
+pub unmade-size : (o : Outcome) → isMade o ≡ false → madeSize o ≡ 0
 unmade-size NotRetained e = refl
 unmade-size Skipped e = refl
 unmade-size Empty e = refl

@@ -1,13 +1,12 @@
 -- What is asked for to make a format 4 or 12 subtable of the pairs that a record's subtable maps.
-use Prim.Native.Nat.{ℕ, _<_, _≤_}
+use Prim.Native.Nat.{ℕ, _≤_}
 use mathlib.Core.Path.{_≡_}
 use mathlib.Core.List.{List}
-use lib.ListN.{length, take}
-use Rattle.laws.specs.Lists.{pairs}
+use lib.ListN.{length}
 use Rattle.number.specs.Limits.{pairsMax}
 use Rattle.source.specs.Kind.{formatOf}
 use Rattle.records.specs.Records.{leadsTo, Placed}
-use Rattle.listing.specs.Listing.{listed, Beside, Columns}
+use Rattle.listing.specs.Listing.{listed, Beside, Columns, First}
 
 -- record k of the source is there, the font has n glyphs, the code points rise and each has a flag, and there is room for all pairs
 pub record Pairs (xs : List ℕ) (k n : ℕ) (codes glyphs flags tocodes toglyphs : List ℕ) : Type 0 where
@@ -21,6 +20,5 @@ pub record Leads (xs : List ℕ) (k format : ℕ) : Type 0 where
   pub is : formatOf (leadsTo xs k) ≡ format
 
 -- what a plan notes of a record's listed pairs: how many they are, where they are the first of the lent columns; else 0
-pub record Fronts (xs : List ℕ) (n : ℕ) (codes glyphs : List ℕ) (k front : ℕ) : Type 0 where
-  pub within : front ≤ length codes
-  pub is : 0 < front → listed xs n codes glyphs k ≡ pairs (take front codes) (take front glyphs)
+abbrev pub Fronts : List ℕ → ℕ → List ℕ → List ℕ → ℕ → ℕ → Type 0
+Fronts xs n codes glyphs k front = First (listed xs n codes glyphs k) codes glyphs front

@@ -26,15 +26,15 @@ isMade (Served by) = false
 isMade (Made size) = true
 
 -- the length of the table that the record made; 0 where it made none
-abbrev pub sizeOf : Outcome → ℕ
-sizeOf NotRetained = 0
-sizeOf Skipped = 0
-sizeOf Empty = 0
-sizeOf TooLong = 0
-sizeOf Covered = 0
-sizeOf BadMapping = 0
-sizeOf (Served by) = 0
-sizeOf (Made size) = size
+abbrev pub madeSize : Outcome → ℕ
+madeSize NotRetained = 0
+madeSize Skipped = 0
+madeSize Empty = 0
+madeSize TooLong = 0
+madeSize Covered = 0
+madeSize BadMapping = 0
+madeSize (Served by) = 0
+madeSize (Made size) = size
 
 -- a variation mapping of the record, to be kept, names a missing glyph
 abbrev pub isBad : Outcome → Bool
@@ -61,7 +61,7 @@ server xs os k = first (serves xs os k) k 0
 
 -- a table's length, with room to add up those of all records
 pub record Short (o : Outcome) : Type 0 where
-  pub below : sizeOf o < 4294967296
+  pub below : madeSize o < 4294967296
 
 pub record Small (os : List Outcome) : Type 0 where
   pub all : length os ≡ recordsMax

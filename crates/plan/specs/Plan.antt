@@ -47,12 +47,12 @@ unfoldable pub refused8 : List Outcome → Bool
 refused8 os = some (λ k. isBad (getD os k NotRetained)) recordsMax 0
 
 -- record k made a format 4 or 12 table
-abbrev pub counts : List ℕ → List Outcome → ℕ → Bool
-counts xs os k = both (isMade (getD os k NotRetained)) (either (leadsToFormat 4 xs k) (leadsToFormat 12 xs k))
+abbrev pub madePlain : List ℕ → List Outcome → ℕ → Bool
+madePlain xs os k = both (isMade (getD os k NotRetained)) (either (leadsToFormat 4 xs k) (leadsToFormat 12 xs k))
 
 -- none did
 unfoldable pub refused9 : List ℕ → List Outcome → Bool
-refused9 xs os = not (some (counts xs os) (recordCount xs) 0)
+refused9 xs os = not (some (madePlain xs os) (recordCount xs) 0)
 
 -- ---- what the functions ask for
 

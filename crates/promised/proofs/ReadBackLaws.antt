@@ -21,7 +21,7 @@ use Rattle.records.specs.Records.{leadsTo}
 use Rattle.listing.specs.Job.{Job}
 use Rattle.plan.specs.declared.Outcome.{Outcome}
 use Rattle.plan.specs.declared.Outcome.the-variants.{NotRetained, Skipped, Empty, TooLong, Covered, BadMapping, Served, Made}
-use Rattle.plan.specs.Outcomes.{sizeOf}
+use Rattle.plan.specs.Outcomes.{madeSize}
 use Rattle.plan.specs.Fresh.{tableOf}
 use Rattle.plan.specs.Plan.{plan}
 use Rattle.result.specs.Lent.{Lent}
@@ -137,7 +137,7 @@ module _ (j : Job) (bytes : Bytes (j .source)) (accepted : refusalOf j ≡ 0) wh
         platform = e .platform;
         encoding = e .encoding;
         leads = e .offset;
-        format = ap (λ (o : ℕ). formatOf (kindAt (result j) o)) (e .offset) ∙ made-format limits maker (sizeOf (at os maker)) (making j limits few maker (m .maker) .is) st ∙ m .alike;
+        format = ap (λ (o : ℕ). formatOf (kindAt (result j) o)) (e .offset) ∙ made-format limits maker (madeSize (at os maker)) (making j limits few maker (m .maker) .is) st ∙ m .alike;
         maker = maker;
         earlier = m .earlier;
         table = st;

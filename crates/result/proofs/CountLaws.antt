@@ -7,7 +7,7 @@ use native.Mathlib.Nat.{zero-add, add-zero}
 use native.Mathlib.Omega.{arith}
 use Rattle.laws.proofs.ChoiceLaws.{by-pick, by-test}
 use Rattle.plan.specs.declared.Outcome.{Outcome}
-use Rattle.plan.specs.Outcomes.{sizeOf}
+use Rattle.plan.specs.Outcomes.{madeSize}
 use Rattle.result.specs.Result.{isWritten, at, countFrom, sizesFrom}
 
 -- the place of the i-th written record among the n records from k on
@@ -85,7 +85,7 @@ module _ (os : List Outcome) where
       let r = sizes-split m n (k + 1) in
       rw (p, q) (omega (arith, r))
 
-  pub sizes-snoc : (n k : ℕ) → sizesFrom os (suc n) k ≡ sizesFrom os n k + sizeOf (at os (k + n))
+  pub sizes-snoc : (n k : ℕ) → sizesFrom os (suc n) k ≡ sizesFrom os n k + madeSize (at os (k + n))
   unfolding sizesFrom
   sizes-snoc n k =
       let p : suc n ≡ n + 1 = omega arith in

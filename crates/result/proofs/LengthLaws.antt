@@ -12,7 +12,7 @@ use Rattle.number.proofs.BigEndianLaws.{length-enc}
 use Rattle.listing.specs.Job.{Job}
 use Rattle.plan.specs.declared.Outcome.{Outcome}
 use Rattle.plan.specs.declared.Outcome.the-variants.{Made}
-use Rattle.plan.specs.Outcomes.{isMade, sizeOf}
+use Rattle.plan.specs.Outcomes.{isMade, madeSize}
 use Rattle.plan.specs.Fresh.{tableOf}
 use Rattle.plan.proofs.SizeLaws.{made-size, unmade-size}
 use Rattle.result.specs.Result.{isWritten, at, countFrom, sizesFrom, written, recordBytes, recordsFrom, tablesBelow, resultOf, resultLength}
@@ -32,8 +32,8 @@ module _ (j : Job) (os : List Outcome) where
       (λ e. rw e r)
 
   module _ (made : (k n : ℕ) → at os k ≡ Made n → n ≡ length (tableOf j k)) where
-    pub size-made : (k : ℕ) → isMade (at os k) ≡ true → sizeOf (at os k) ≡ length (tableOf j k)
-    size-made k e = made k (sizeOf (at os k)) (made-size (at os k) e)
+    pub size-made : (k : ℕ) → isMade (at os k) ≡ true → madeSize (at os k) ≡ length (tableOf j k)
+    size-made k e = made k (madeSize (at os k)) (made-size (at os k) e)
 
     pub length-tables : (n : ℕ) → length (tablesBelow j os n) ≡ sizesFrom os n 0
     unfolding tablesBelow sizesFrom

@@ -28,13 +28,13 @@ use Rattle.result.specs.Lent.{Lent}
 
 module _ {A : Type 0} (none : A) (glyph : ℕ → A) (f : ℕ → Bool) (c : ℕ) where
   -- pairs picked by their code points list what all list, where c itself passes
-  pub listed-select : (ps : List Pair) → laws.listed none glyph (select (λ (p : Pair). f (p .0)) ps) c ≡ pick (f c) (laws.listed none glyph ps c) none
-  unfolding laws.listed select
+  pub listed-select : (ps : List Pair) → laws.listedAs none glyph (select (λ (p : Pair). f (p .0)) ps) c ≡ pick (f c) (laws.listedAs none glyph ps c) none
+  unfolding laws.listedAs select
   listed-select [] = sym (pick-same (f c) none)
   listed-select (p ∷ ps) = go (f (p .0)) refl (eqb (p .0) c) refl (select (λ (q : Pair). f (q .0)) ps) (listed-select ps)
     where
-      go : (t : Bool) → f (p .0) ≡ t → (u : Bool) → eqb (p .0) c ≡ u → (r : List Pair) → laws.listed none glyph r c ≡ pick (f c) (laws.listed none glyph ps c) none
-          → laws.listed none glyph (pick t (p ∷ r) r) c ≡ pick (f c) (pick u (glyph (p .1)) (laws.listed none glyph ps c)) none
+      go : (t : Bool) → f (p .0) ≡ t → (u : Bool) → eqb (p .0) c ≡ u → (r : List Pair) → laws.listedAs none glyph r c ≡ pick (f c) (laws.listedAs none glyph ps c) none
+          → laws.listedAs none glyph (pick t (p ∷ r) r) c ≡ pick (f c) (pick u (glyph (p .1)) (laws.listedAs none glyph ps c)) none
       go true e true d r h =
           let passes : f c ≡ true = rw (eqb-true (p .0) c d) at e in
           rw (d, passes)

@@ -34,7 +34,7 @@ use Rattle.format14.specs.Format14.{outcome as outcome14}
 use Rattle.format14.proofs.WholeLaws.{outcome-says}
 use Rattle.plan.specs.declared.Outcome.{Outcome}
 use Rattle.plan.specs.declared.Outcome.the-variants.{Skipped, Made}
-use Rattle.plan.specs.Outcomes.{isMade, sizeOf}
+use Rattle.plan.specs.Outcomes.{isMade, madeSize}
 use Rattle.plan.specs.Fresh.{listedOf, givenOf, tableAs, tableOf, by4, by14, freshAs, fresh}
 
 -- another outcome than a made table
@@ -68,13 +68,13 @@ made4 language ps n Empty q e = not-made (Made4 language ps n) (by4 Empty) n ref
 made4 language ps n TooLong q e = not-made (Made4 language ps n) (by4 TooLong) n refl e
 made4 language ps n (Fits c) q e =
     let t = subst (Told language ps) q (sized language ps) in
-    record { counter = c; is = q; long = sym (ap sizeOf e) ∙ t .0; some = t .1 }
+    record { counter = c; is = q; long = sym (ap madeSize e) ∙ t .0; some = t .1 }
 
 -- format 14: no refusal, and a selector record
 made14 : (o : Outcome14) (n : ℕ) → by14 o ≡ Made n → Length n ≡ o
 made14 Refused8 n e = not-made (Length n ≡ Refused8) (by14 Refused8) n refl e
 made14 Empty14 n e = not-made (Length n ≡ Empty14) (by14 Empty14) n refl e
-made14 (Length m) n e = ap Length (sym (ap sizeOf e))
+made14 (Length m) n e = ap Length (sym (ap madeSize e))
 
 -- ---- a record that makes a table of n bytes
 
@@ -90,7 +90,7 @@ module _ (j : Job) (k n : ℕ) (made : fresh j k ≡ Made n) where
     where
       go : (kind : Kind) → freshAs kind j k ≡ Made n → n ≡ length (tableAs kind j k)
       go (Format4 language s len) e = made4 language (listedOf j k) n (sizeOf4 (listedOf j k)) refl e .long
-      go (Format12 language g len) e = sym (ap sizeOf e) ∙ sym (length-table 12 language (groups (listedOf j k)))
+      go (Format12 language g len) e = sym (ap madeSize e) ∙ sym (length-table 12 language (groups (listedOf j k)))
       go (Format14 r len) e = outcome-says (givenOf j k len) n (made14 (outcome14 (givenOf j k len)) n e)
       go Unreadable e = not-made (n ≡ 0) Skipped n refl e
 

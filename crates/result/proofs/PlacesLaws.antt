@@ -19,7 +19,7 @@ use Rattle.records.specs.Records.{leadsTo}
 use Rattle.listing.specs.Job.{Job}
 use Rattle.plan.specs.declared.Outcome.{Outcome}
 use Rattle.plan.specs.declared.Outcome.the-variants.{NotRetained, Skipped, Empty, TooLong, Covered, BadMapping, Served, Made}
-use Rattle.plan.specs.Outcomes.{isMade, sizeOf}
+use Rattle.plan.specs.Outcomes.{isMade, madeSize}
 use Rattle.plan.specs.Fresh.{tableOf}
 use Rattle.plan.proofs.SizeLaws.{unmade-size}
 use Rattle.result.specs.Result.{isWritten, makerOf, at, countFrom, sizesFrom, written, offsetOf, recordBytes, recordsFrom, tablesBelow, resultOf, resultLength}
@@ -77,7 +77,7 @@ module _ (j : Job) (os : List Outcome) (s : Sound j os) where
       by-test (Stands (tablesBelow j os (suc n)) (sizesFrom os (suc n - (k + 1)) (k + 1)) (tableOf j k)) (isMade (at os n))
       (λ e.
       let l = size-made j os (s .made) n e in
-      rw (z, sizes-snoc os (n - (k + 1)) (k + 1), y, e) (stands-behind (tableOf j n) (sizesFrom os (n - (k + 1)) (k + 1) + sizeOf (at os n)) r (omega arith)))
+      rw (z, sizes-snoc os (n - (k + 1)) (k + 1), y, e) (stands-behind (tableOf j n) (sizesFrom os (n - (k + 1)) (k + 1) + madeSize (at os n)) r (omega arith)))
       (λ e. rw (z, sizes-snoc os (n - (k + 1)) (k + 1), y, e, unmade-size (at os n) e, add-zero) r))
 
   -- ---- records

@@ -16,7 +16,7 @@ use Rattle.listing.specs.Job.{Job, glyphCount}
 use Rattle.plan.specs.Covered.{covered}
 use Rattle.plan.specs.declared.Outcome.{Outcome}
 use Rattle.plan.specs.declared.Outcome.the-variants.{NotRetained, Skipped, Empty, TooLong, Covered, BadMapping, Served, Made}
-use Rattle.plan.specs.Outcomes.{isMade, sizeOf, serves}
+use Rattle.plan.specs.Outcomes.{isMade, madeSize, serves}
 use Rattle.plan.specs.Fresh.{fresh}
 use Rattle.plan.specs.Plan.{outcomeOf, outcomes, plan}
 use Rattle.plan.proofs.SizeLaws.{made-size}
@@ -115,7 +115,7 @@ module _ (j : Job) (few : recordCount (j .source) ≤ recordsMax) where
         kept = a;
         uncovered = b;
         earlier = l;
-        size = sizeOf o;
+        size = madeSize o;
         made = made-size o (both-left (isMade o) f both-are);
         same = eqb-true (formatOf (leadsTo (j .source) r)) (formatOf (leadsTo (j .source) k)) (both-right (isMade o) f both-are);
       }

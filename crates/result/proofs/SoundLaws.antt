@@ -20,7 +20,7 @@ use Rattle.listing.specs.Job.{Job}
 use Rattle.format12_lookup.proofs.BytesLaws.{groups-few}
 use Rattle.format12_lookup.proofs.Format12KindLaws.{length-is}
 use Rattle.plan.specs.declared.Outcome.the-variants.{Made}
-use Rattle.plan.specs.Outcomes.{isMade, sizeOf}
+use Rattle.plan.specs.Outcomes.{isMade, madeSize}
 use Rattle.plan.specs.Fresh.{listedOf, fresh}
 use Rattle.plan.specs.Plan.{plan}
 use Rattle.plan.proofs.SizeLaws.{made-size, unmade-size}
@@ -34,8 +34,8 @@ use Rattle.result.proofs.CountLaws.{count-few, sizes-snoc}
 use Rattle.result.proofs.PlacesLaws.{Sound}
 
 module _ (j : Job) (l : Lent j) (few : recordCount (j .source) ≤ recordsMax) where
-  pub making : (k : ℕ) → isMade (at (plan j) k) ≡ true → Making j k (sizeOf (at (plan j) k))
-  making k e = plan-made j few k (sizeOf (at (plan j) k)) (made-size (at (plan j) k) e)
+  pub making : (k : ℕ) → isMade (at (plan j) k) ≡ true → Making j k (madeSize (at (plan j) k))
+  making k e = plan-made j few k (madeSize (at (plan j) k)) (made-size (at (plan j) k) e)
 
   -- ---- how long a table can be
 
@@ -76,7 +76,7 @@ module _ (j : Job) (l : Lent j) (few : recordCount (j .source) ≤ recordsMax) w
       (λ e.
       let a = both-left (isMade (at (plan j) r)) (leadsToFormat format (j .source) r) e in
       let b = both-right (isMade (at (plan j) r)) (leadsToFormat format (j .source) r) e in
-      t .alone r (sizeOf (at (plan j) r)) h (made-size (at (plan j) r) a) (eqb-true (formatOf (leadsTo (j .source) r)) format b ∙ sym f)))
+      t .alone r (madeSize (at (plan j) r)) h (made-size (at (plan j) r) a) (eqb-true (formatOf (leadsTo (j .source) r)) format b ∙ sym f)))
 
   share-before : (k format most : ℕ) → first (makes j (plan j) format) 64 0 ≡ k → share format most k ≡ 0
   unfolding share
@@ -102,7 +102,7 @@ module _ (j : Job) (l : Lent j) (few : recordCount (j .source) ≤ recordsMax) w
       by-test (sizesFrom (plan j) (suc n) 0 ≤ shares (suc n)) (isMade (at (plan j) n))
       (λ m.
       let t = making n m in
-      let size = sizeOf (at (plan j) n) in
+      let size = madeSize (at (plan j) n) in
       by-format j n size (t .is) (sizesFrom (plan j) (suc n) 0 ≤ shares (suc n))
       (λ language s len e.
       let f = first-maker n 4 m (ap formatOf e) in

@@ -6,7 +6,7 @@ use native.Mathlib.Omega.{arith}
 use lib.ListN.{length}
 use Rattle.laws.specs.Choice.{pick}
 use Rattle.laws.specs.Lists.{pairs}
-use Rattle.laws.specs.Listed.{listed, listedGlyph}
+use Rattle.laws.specs.Listed.{listedAs, listedGlyph}
 use Rattle.laws.proofs.StandsLaws.{Stands}
 use Rattle.ranges.specs.Cutting.{segments}
 use Rattle.source.specs.declared.Kind.{Kind}
@@ -82,7 +82,7 @@ module _ {j : Job} (l : Lent j) (k : ℕ) where
             format12-kind-stands language (listedOf j k) (language12-fits j k (l .bytes) e) (above-listed l k) (stands-as (Format12 language g len) e)
             ∙ ap (Format12 language (length (groups (listedOf j k)))) (sym (long-as (Format12 language g len) e))
 
-        found12 : (c : ℕ) → lookup12 xs at c ≡ listed Nothing Glyph (listedOf j k) c
+        found12 : (c : ℕ) → lookup12 xs at c ≡ listedAs Nothing Glyph (listedOf j k) c
         found12 c = format12-gives-stands language (listedOf j k) (language12-fits j k (l .bytes) e) (above-listed l k) (stands-as (Format12 language g len) e) c
 
         glyph12 : (c : ℕ) → glyphOf (lookup12 xs at c) ≡ listedGlyph (listedOf j k) c
@@ -136,8 +136,8 @@ module _ {j : Job} (l : Lent j) (k : ℕ) where
         made-glyph4 = made-finds4 ∙ as-mapped c
 
       module _ (f : formatOf (leadsTo (j .source) k) ≡ 12) (c : ℕ) where
-        pub made-found12 : lookup12 xs at c ≡ listed Nothing Glyph (listedOf j k) c
-        made-found12 = by12 (lookup12 xs at c ≡ listed Nothing Glyph (listedOf j k) c) f (λ language g len e. found12 e c)
+        pub made-found12 : lookup12 xs at c ≡ listedAs Nothing Glyph (listedOf j k) c
+        made-found12 = by12 (lookup12 xs at c ≡ listedAs Nothing Glyph (listedOf j k) c) f (λ language g len e. found12 e c)
 
         pub made-finds12 : glyphOf (lookup12 xs at c) ≡ listedGlyph (listedOf j k) c
         made-finds12 = by12 (glyphOf (lookup12 xs at c) ≡ listedGlyph (listedOf j k) c) f (λ language g len e. glyph12 e c)

@@ -11,7 +11,7 @@ use Rattle.records.specs.Records.{leadsToFormat}
 use Rattle.listing.specs.Job.{Job}
 use Rattle.plan.specs.declared.Outcome.{Outcome}
 use Rattle.plan.specs.declared.Outcome.the-variants.{NotRetained, Skipped, Empty, TooLong, Covered, BadMapping, Served, Made}
-use Rattle.plan.specs.Outcomes.{isMade, sizeOf}
+use Rattle.plan.specs.Outcomes.{isMade, madeSize}
 use Rattle.plan.specs.Fresh.{tableOf}
 
 -- ---- what an outcome says
@@ -53,7 +53,7 @@ countFrom os (suc n) k = let r = countFrom os n (k + 1) in pick (isWritten (at o
 
 unfoldable pub sizesFrom : List Outcome → ℕ → ℕ → ℕ
 sizesFrom os zero k = 0
-sizesFrom os (suc n) k = sizeOf (at os k) + sizesFrom os n (k + 1)
+sizesFrom os (suc n) k = madeSize (at os k) + sizesFrom os n (k + 1)
 
 -- how many records are written
 abbrev pub written : List Outcome → ℕ

@@ -4,7 +4,7 @@ ghost use Prim.Native.Nat.{_+_, _≤_};
 ghost use lib.Dec.{leb, eqb};
 ghost use lib.ListN.{length};
 ghost use Rattle.laws.specs.Lists.{Rising};
-ghost use Rattle.marks.specs.Marks.{below, passed, listed, Bound};
+ghost use Rattle.marks.specs.Marks.{below, passed, listedWhole, Bound};
 
 // Whether the first i points are below c.
 fn reaches(points: &[u32], c: u64, i: usize) -> bool
@@ -96,7 +96,7 @@ pub struct Span {
 
 // Whether start stands at near, and all up to end behind it: two looks at points that rise tell it.
 fn is_listed(points: &[u32], start: u32, end: u32, near: usize) -> bool
-    ensures { λ r. ⌜ r ≡ listed (now (points .entry)) start end near ⌝ }
+    ensures { λ r. ⌜ r ≡ listedWhole (now (points .entry)) start end near ⌝ }
 {
     if end < start {
         return false;

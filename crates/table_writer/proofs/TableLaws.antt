@@ -26,7 +26,7 @@ use Rattle.format14.specs.Ends.{Ends}
 use Rattle.format14.specs.Format14.{format14, rows, lengthOf}
 use Rattle.format14.proofs.WholeLaws.{length-format14}
 use Rattle.plan.specs.declared.Outcome.the-variants.{Made}
-use Rattle.plan.specs.Outcomes.{sizeOf}
+use Rattle.plan.specs.Outcomes.{madeSize}
 use Rattle.plan.specs.Fresh.{tableOf, by4, fresh}
 use Rattle.plan.proofs.FreshLaws.{leads4, readable14}
 use Rattle.result.proofs.MadeLaws.{not-made, made-length, table-is}
@@ -35,7 +35,7 @@ use Rattle.table_writer.specs.Parts.{Room, Known}
 sized4 : (ps : List Pair) (place n l : ℕ) (size : Size) → sizeOf4 ps ≡ size → by4 size ≡ Made n → place + n ≤ l → Fits4 ps place l
 sized4 ps place n l Empty q e h = not-made (Fits4 ps place l) (by4 Empty) n refl e
 sized4 ps place n l TooLong q e h = not-made (Fits4 ps place l) (by4 TooLong) n refl e
-sized4 ps place n l (Fits c) q e h = record { counter = c; is = q; room = omega (arith, ap sizeOf e) }
+sized4 ps place n l (Fits c) q e h = record { counter = c; is = q; room = omega (arith, ap madeSize e) }
 
 module _ (xs : List ℕ) (k : ℕ) (kind : Kind) (q : kind ≡ leadsTo xs k) (cs gs kept map requested : List ℕ) (place size : ℕ) where
   abbrev j : Job

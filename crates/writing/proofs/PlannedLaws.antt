@@ -10,7 +10,7 @@ use Rattle.header.specs.Header.{recordCount}
 use Rattle.listing.specs.Job.{Job}
 use Rattle.plan.specs.declared.Outcome.{Outcome}
 use Rattle.plan.specs.declared.Outcome.the-variants.{NotRetained, Skipped, Empty, TooLong, Covered, BadMapping, Served, Made}
-use Rattle.plan.specs.Outcomes.{isMade, sizeOf, Small}
+use Rattle.plan.specs.Outcomes.{isMade, madeSize, Small}
 use Rattle.plan.specs.Fresh.{tableOf, Ready}
 use Rattle.plan.specs.Plan.{plan, Prepared}
 use Rattle.plan.proofs.PlanLaws.{ready, prepared-again}
@@ -19,13 +19,13 @@ use Rattle.result.proofs.PlanLaws.{Making, plan-past, plan-made, plan-served}
 use Rattle.result.specs.Result.{isWritten, makerOf, at, written, resultOf, resultLength}
 use Rattle.plan.proofs.SizeLaws.{made-size}
 use Rattle.record_writer.specs.Parts.{Laid}
-use Rattle.writing.specs.Writing.{Planned}
+use Rattle.writing.specs.Writing.{WritesPlan}
 use Rattle.result.proofs.LengthLaws.{length-result}
 
 -- a job is planned, its work room written to
 pub planned : (j : Job) (m : ℕ) (fs ot tocs togs : List ℕ) → Prepared j m fs ot tocs togs
     → (fs′ tocs′ togs′ : List ℕ) → length fs′ ≡ length fs → length tocs′ ≡ length tocs → length togs′ ≡ length togs
-    → (os : List Outcome) (count : ℕ) → os ≡ plan j → Small os → count ≡ written os → count ≤ 64 → Planned j os count fs′ tocs′ togs′
+    → (os : List Outcome) (count : ℕ) → os ≡ plan j → Small os → count ≡ written os → count ≤ 64 → WritesPlan j os count fs′ tocs′ togs′
 planned j m fs ot tocs togs p fs′ tocs′ togs′ a b d os count e s w f = record {
   m = m;
   others = ot;
@@ -45,8 +45,8 @@ maker-low BadMapping k l h f = h
 maker-low (Served r) k l h f = omega (arith, f r refl)
 maker-low (Made n) k l h f = h
 
-module _ (j : Job) (os : List Outcome) (count : ℕ) (fs tocs togs : List ℕ) (p : Planned j os count fs tocs togs) where
-  pub planned-again : (fs′ tocs′ togs′ : List ℕ) → length fs′ ≡ length fs → length tocs′ ≡ length tocs → length togs′ ≡ length togs → Planned j os count fs′ tocs′ togs′
+module _ (j : Job) (os : List Outcome) (count : ℕ) (fs tocs togs : List ℕ) (p : WritesPlan j os count fs tocs togs) where
+  pub planned-again : (fs′ tocs′ togs′ : List ℕ) → length fs′ ≡ length fs → length tocs′ ≡ length tocs → length togs′ ≡ length togs → WritesPlan j os count fs′ tocs′ togs′
   planned-again fs′ tocs′ togs′ a b d =
       planned j (p .m) fs (p .others) tocs togs (p .prepared) fs′ tocs′ togs′ a b d os count (p .is) (p .counts .small) (p .counts .is) (p .counts .few)
 
@@ -69,8 +69,8 @@ module _ (j : Job) (os : List Outcome) (count : ℕ) (fs tocs togs : List ℕ) (
     makers = λ k h. maker-low (at os k) k 64 h (λ r e. plan-served j few k r (rw (p .is) at e) .earlier);
   }
 
-  pub making-of : (k : ℕ) → isMade (at os k) ≡ true → Making j k (sizeOf (at os k))
-  making-of k e = plan-made j few k (sizeOf (at os k)) (ap (λ (row : List Outcome). at row k) (sym (p .is)) ∙ made-size (at os k) e)
+  pub making-of : (k : ℕ) → isMade (at os k) ≡ true → Making j k (madeSize (at os k))
+  making-of k e = plan-made j few k (madeSize (at os k)) (ap (λ (row : List Outcome). at row k) (sym (p .is)) ∙ made-size (at os k) e)
 
   -- each table is as long as its outcome says
   pub lengths : (k n : ℕ) → at os k ≡ Made n → n ≡ length (tableOf j k)

@@ -11,12 +11,12 @@ use Rattle.laws.proofs.SetsLaws.{sets-append}
 use Rattle.listing.specs.Job.{Job}
 use Rattle.plan.specs.declared.Outcome.{Outcome}
 use Rattle.plan.specs.declared.Outcome.the-variants.{NotRetained}
-use Rattle.plan.specs.Outcomes.{isMade, sizeOf}
+use Rattle.plan.specs.Outcomes.{isMade, madeSize}
 use Rattle.plan.specs.Fresh.{tableOf, Ready}
 use Rattle.result.specs.Result.{at, sizesFrom, tablesStart, tablesBelow, resultLength}
 use Rattle.result.proofs.CountLaws.{sizes-snoc}
 use Rattle.plan.proofs.SizeLaws.{unmade-size}
-use Rattle.writing.specs.Writing.{Planned, Noted}
+use Rattle.writing.specs.Writing.{WritesPlan, Noted}
 use Rattle.table_writer.specs.Parts.{Room, Known}
 use Rattle.result.proofs.LengthLaws.{size-made}
 use Rattle.writing.proofs.PlannedLaws.{planned-again, ready-of, making-of, lengths}
@@ -24,7 +24,7 @@ use Rattle.writing.proofs.PlannedLaws.{planned-again, ready-of, making-
 -- the tables of the records from k on stand before `place`
 pub record Tabling (j : Job) (os : List Outcome) (count : ℕ) (out₀ fs₀ tocs₀ togs₀ out fs tocs togs : List ℕ) (place k : ℕ) : Type 0 where
   pub within : k ≤ 64
-  pub planned : Planned j os count fs tocs togs
+  pub planned : WritesPlan j os count fs tocs togs
   pub low : place + 4294967296 * k ≤ 516 + 64 * 4294967296
   pub room : place + sizesFrom os k 0 ≤ length out
   pub same : length out ≡ length out₀
@@ -33,7 +33,7 @@ pub record Tabling (j : Job) (os : List Outcome) (count : ℕ) (out₀ fs₀ toc
   pub glyphs : length togs ≡ length togs₀
   pub left : sets out place (tablesBelow j os k) ≡ sets out₀ (tablesStart os) (tablesBelow j os 64)
 
-pub tabling-start : (j : Job) (os : List Outcome) (count : ℕ) (out fs tocs togs : List ℕ) → Planned j os count fs tocs togs → resultLength os ≤ length out
+pub tabling-start : (j : Job) (os : List Outcome) (count : ℕ) (out fs tocs togs : List ℕ) → WritesPlan j os count fs tocs togs → resultLength os ≤ length out
     → Tabling j os count out fs tocs togs out fs tocs togs (4 + 8 * count) 64
 tabling-start j os count out fs tocs togs p h = record {
   within = omega arith;
@@ -59,7 +59,7 @@ module _ (j : Job) (os : List Outcome) (count : ℕ) (out₀ fs₀ tocs₀ togs�
     down : k ≡ suc (k - 1)
     down = omega arith
 
-    sizes-down : sizesFrom os k 0 ≡ sizesFrom os (k - 1) 0 + sizeOf (at os (k - 1))
+    sizes-down : sizesFrom os k 0 ≡ sizesFrom os (k - 1) 0 + madeSize (at os (k - 1))
     sizes-down = ap (λ (n : ℕ). sizesFrom os n 0) down ∙ rw (zero-add (k - 1)) at (sizes-snoc os (k - 1) 0)
 
     pub tabling-no : t ≡ false → Tabling j os count out₀ fs₀ tocs₀ togs₀ out fs tocs togs place (k - 1)
@@ -81,7 +81,7 @@ module _ (j : Job) (os : List Outcome) (count : ℕ) (out₀ fs₀ tocs₀ togs�
       pub tabling-ready : Ready j (k - 1) fs tocs togs
       tabling-ready = ready-of j os count fs tocs togs (l .planned) (k - 1) (making-of j os count fs tocs togs (l .planned) (k - 1) (sym q ∙ e) .inside)
 
-      pub tabling-room : (size : ℕ) → size ≡ sizeOf (getD os (k - 1) NotRetained) → Room j (k - 1) place size (length out)
+      pub tabling-room : (size : ℕ) → size ≡ madeSize (getD os (k - 1) NotRetained) → Room j (k - 1) place size (length out)
       tabling-room size s = record {
         is = rw s (making-of j os count fs tocs togs (l .planned) (k - 1) (sym q ∙ e) .is);
         fits = omega (arith, l .room, sizes-down, s);
@@ -94,7 +94,7 @@ module _ (j : Job) (os : List Outcome) (count : ℕ) (out₀ fs₀ tocs₀ togs�
         ended = w .endings .each (k - 1) (making-of j os count fs tocs togs (l .planned) (k - 1) (sym q ∙ e) .inside) (sym q ∙ e);
       }
 
-      pub tabling-yes : (next fs′ tocs′ togs′ : List ℕ) (size : ℕ) → next ≡ sets out place (tableOf j (k - 1)) → size ≡ sizeOf (getD os (k - 1) NotRetained)
+      pub tabling-yes : (next fs′ tocs′ togs′ : List ℕ) (size : ℕ) → next ≡ sets out place (tableOf j (k - 1)) → size ≡ madeSize (getD os (k - 1) NotRetained)
           → length fs′ ≡ length fs → length tocs′ ≡ length tocs → length togs′ ≡ length togs
           → Tabling j os count out₀ fs₀ tocs₀ togs₀ next fs′ tocs′ togs′ (place + size) (k - 1)
       unfolding tablesBelow
@@ -119,5 +119,5 @@ pub ruleset tabling = (tabling-start, tabling-end, tabling-no, tabling-ready, ta
 
 -- the next place is a number of 64 bits
 pub tabling-low : {j : Job} {os : List Outcome} {count : ℕ} {out₀ fs₀ tocs₀ togs₀ out fs tocs togs : List ℕ} {place k size : ℕ}
-    → Tabling j os count out₀ fs₀ tocs₀ togs₀ out fs tocs togs place k → 0 < k → size ≡ sizeOf (getD os (k - 1) NotRetained) → place + size ≤ 516 + 64 * 4294967296
+    → Tabling j os count out₀ fs₀ tocs₀ togs₀ out fs tocs togs place k → 0 < k → size ≡ madeSize (getD os (k - 1) NotRetained) → place + size ≤ 516 + 64 * 4294967296
 tabling-low {k = k} l h s = omega (arith, l .low, s, l .planned .counts .small .each (k - 1) .below)

@@ -12,7 +12,7 @@ use Rattle.listing.specs.Job.{Job, job}
 use Rattle.plan.specs.declared.Outcome.{Outcome}
 use Rattle.result.specs.Result.{written, tablesStart, recordsFrom, tablesBelow, resultOf, resultLength}
 use Rattle.record_writer.specs.Parts.{sourced, Laid}
-use Rattle.writing.specs.Writing.{Planned}
+use Rattle.writing.specs.Writing.{WritesPlan}
 use Rattle.result.proofs.LengthLaws.{length-records}
 use Rattle.writing.proofs.PlannedLaws.{laid}
 use Rattle.record_writer.proofs.RecordsLaws.{records-sourced}
@@ -21,7 +21,7 @@ module _ (xs cs gs kept map requested : List ℕ) (os : List Outcome) (count : �
   abbrev j : Job
   j = job xs cs gs kept map requested
 
-  module _ (p : Planned j os count fs tocs togs) where
+  module _ (p : WritesPlan j os count fs tocs togs) where
     pub planned-laid : Laid xs os count
     planned-laid = laid j os count fs tocs togs p
 

@@ -12,7 +12,7 @@ use Rattle.table_places.specs.Counts.{Counts}
 
 -- the outcomes are the plan of a job that may be worked on, and so many of its records are written
 -- (what is asked is what planning asks; writing makes no use of the work room `others`)
-pub record Planned (j : Job) (os : List Outcome) (count : ℕ) (flags tocodes toglyphs : List ℕ) : Type 0 where
+pub record WritesPlan (j : Job) (os : List Outcome) (count : ℕ) (flags tocodes toglyphs : List ℕ) : Type 0 where
   pub m : ℕ
   pub others : List ℕ
   pub prepared : Prepared j m flags others tocodes toglyphs

@@ -6,7 +6,7 @@ ghost use lib.ListN.{length};
 ghost use lib.Seq.{sets};
 ghost use Rattle.listing.specs.Job.{job};
 ghost use Rattle.result.specs.Result.{tablesStart, tablesBelow, resultOf, resultLength};
-ghost use Rattle.writing.specs.Writing.{Planned, Noted};
+ghost use Rattle.writing.specs.Writing.{WritesPlan, Noted};
 
 // Writes the tables behind the records, the one made last first.
 fn write_tables(
@@ -25,7 +25,7 @@ fn write_tables(
     os: [Outcome; 64],
     count: usize,
 )
-    requires { ⌜ Planned (job (now s) (now codes) (now glyphs) (now kept) (now map) (now requested)) os count (now flags) (now tocodes) (now toglyphs) ⌝ }
+    requires { ⌜ WritesPlan (job (now s) (now codes) (now glyphs) (now kept) (now map) (now requested)) os count (now flags) (now tocodes) (now toglyphs) ⌝ }
     requires { ⌜ Noted (job (now s) (now codes) (now glyphs) (now kept) (now map) (now requested)) os (now fronts) (now ends) ⌝ }
     requires { ⌜ resultLength os ≤ length (now out) ⌝ }
     ensures { λ _. ⌜ now (out .exit) ≡ sets (now (out .entry)) (tablesStart os) (tablesBelow (job (now (s .entry)) (now (codes .entry)) (now (glyphs .entry)) (now (kept .entry)) (now (map .entry)) (now (requested .entry))) os 64) ⌝ }
@@ -77,7 +77,7 @@ pub fn serialize_cmap(
     os: [Outcome; 64],
     count: usize,
 )
-    requires { ⌜ Planned (job (now s) (now codes) (now glyphs) (now kept) (now map) (now requested)) os count (now flags) (now tocodes) (now toglyphs) ⌝ }
+    requires { ⌜ WritesPlan (job (now s) (now codes) (now glyphs) (now kept) (now map) (now requested)) os count (now flags) (now tocodes) (now toglyphs) ⌝ }
     requires { ⌜ Noted (job (now s) (now codes) (now glyphs) (now kept) (now map) (now requested)) os (now fronts) (now ends) ⌝ }
     requires { ⌜ resultLength os ≤ length (now out) ⌝ }
     ensures { λ _. ⌜ now (out .exit) ≡ sets (now (out .entry)) 0 (resultOf (job (now (s .entry)) (now (codes .entry)) (now (glyphs .entry)) (now (kept .entry)) (now (map .entry)) (now (requested .entry))) os) ⌝ }

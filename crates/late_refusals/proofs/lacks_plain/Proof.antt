@@ -1,4 +1,4 @@
-use Rattle.plan.specs.Plan.{counts}
+use Rattle.plan.specs.Plan.{madePlain}
 use Rattle.laws.proofs.SearchLaws.{Asking}
 use Prim.Native.Nat.{_-_}
 use native.Mathlib.Omega.{arith}
@@ -8,7 +8,7 @@ use Rattle.late_refusals.proofs.lacks_plain.Statement.{statement}
 use Rattle.late_refusals.proofs.lacks_plain.Tie as tie
 
 abbrev Inv-loop : tie.InvT-loop
-Inv-loop s m os k₀ k = Asking (counts s os) m k
+Inv-loop s m os k₀ k = Asking (madePlain s os) m k
 
 abbrev μ-loop : tie.MeasureT-loop
 μ-loop s m os k₀ k = m - k

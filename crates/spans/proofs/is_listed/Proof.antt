@@ -1,16 +1,16 @@
 -- The tests are the definition's own.
 use Rattle.laws.proofs.ChoiceLaws.{tests}
-use Rattle.marks.specs.Marks.{listed}
+use Rattle.marks.specs.Marks.{listedWhole}
 use borrow.Author.Needs.{needs}
 use Rattle.spans.proofs.is_listed.Statement.{statement}
 use Rattle.spans.proofs.is_listed.Tie as tie
 
 returns : tie.Need-returns
-unfolding listed
+unfolding listedWhole
 returns c = search tests
 
 returns-2 : tie.Need-returns-2
-unfolding listed
+unfolding listedWhole
 returns-2 c = search tests
 
 mul-if3 : tie.Need-mul-if3
@@ -20,7 +20,7 @@ shared-slice-read-if3 : tie.Need-shared-slice-read-if3
 shared-slice-read-if3 c = search needs
 
 returns-3 : tie.Need-returns-3
-unfolding listed
+unfolding listedWhole
 returns-3 c = search tests
 
 cast-more : tie.Need-cast-more
@@ -30,7 +30,7 @@ sub-if4 : tie.Need-sub-if4
 sub-if4 c = search needs
 
 returns-4 : tie.Need-returns-4
-unfolding listed
+unfolding listedWhole
 returns-4 c = search tests
 
 add-result : tie.Need-add-result
@@ -43,7 +43,7 @@ shared-slice-read-result : tie.Need-shared-slice-read-result
 shared-slice-read-result c = search needs
 
 returns-5 : tie.Need-returns-5
-unfolding listed
+unfolding listedWhole
 returns-5 c = search tests
 
 pub is-listed-spec : {M : Type 1} → statement M
