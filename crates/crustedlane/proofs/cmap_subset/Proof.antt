@@ -71,10 +71,10 @@ use Rattle.pairs.proofs.copy_pairs as copy-pairs
 use Rattle.pairs.proofs.copy_pairs.Symbol as copy-def
 use Rattle.pairs.proofs.copy_pairs.Symbol.{name as #copy}
 use Rattle.pairs.proofs.copy_pairs.Met as copy-thm
-use Rattle.boundary.proofs.subset_on_room as core
-use Rattle.boundary.proofs.subset_on_room.Symbol as core-def
-use Rattle.boundary.proofs.subset_on_room.Symbol.{name as #core}
-use Rattle.boundary.proofs.subset_on_room.Met as core-thm
+use Rattle.crustedlane.proofs.subset_on_room as core
+use Rattle.crustedlane.proofs.subset_on_room.Symbol as core-def
+use Rattle.crustedlane.proofs.subset_on_room.Symbol.{name as #core}
+use Rattle.crustedlane.proofs.subset_on_room.Met as core-thm
 use Rattle.crustedlane.proofs.cmap_subset.Key.{name as #crustedlane·cmap-subset}
 use Rattle.crustedlane.proofs.cmap_subset as f
 use Rattle.crustedlane.proofs.cmap_subset.Statement as stated
@@ -378,4 +378,4 @@ cmap-subset-spec 𝓤 H 𝓜 𝓖 𝓡 =
     (meets 𝓤 H (𝓖 .A) (givenOf 𝓤 H 𝓜 𝓖) (𝓜 .mem) (𝓡 .run) (tablesOf 𝓤 H 𝓜 (tables 𝓤 H 𝓜 𝓡 code.env))
     (cited 𝓤 H (Sizes 𝓤 H (𝓖 .A) (𝓜 .mem) (𝓡 .run)) 𝓜 𝓡 code.env #sizes sizes-def.routine code.calls-pair-sizes·sizes-broken (sizes-thm.met 𝓤 H 𝓜 𝓖 𝓡))
     (cited 𝓤 H (Copy 𝓤 H (𝓖 .A) (𝓜 .mem) (𝓡 .run)) 𝓜 𝓡 code.env #copy copy-def.routine code.calls-pairs·copy-pairs (copy-thm.met 𝓤 H 𝓜 𝓖 𝓡))
-    (cited 𝓤 H (Core 𝓤 H (𝓖 .A) (𝓜 .mem) (𝓡 .run)) 𝓜 𝓡 code.env #core core-def.routine code.calls-boundary·subset-on-room (core-thm.met 𝓤 H 𝓜 𝓖 𝓡)))
+    (cited 𝓤 H (Core 𝓤 H (𝓖 .A) (𝓜 .mem) (𝓡 .run)) 𝓜 𝓡 code.env #core core-def.routine code.calls-subset-on-room (core-thm.met 𝓤 H 𝓜 𝓖 𝓡)))

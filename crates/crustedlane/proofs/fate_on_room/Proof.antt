@@ -1,8 +1,8 @@
 use Rattle.laws.proofs.TakeLaws.{take-counts}
 use Rattle.told.proofs.TellLaws.{telling}
 use borrow.Author.Needs.{needs}
-use Rattle.boundary.proofs.fate_on_room.Statement.{statement}
-use Rattle.boundary.proofs.fate_on_room.Tie as tie
+use Rattle.crustedlane.proofs.fate_on_room.Statement.{statement}
+use Rattle.crustedlane.proofs.fate_on_room.Tie as tie
 
 slice-reshare-prefix-fate-of : tie.Need-slice-reshare-prefix-fate-of
 slice-reshare-prefix-fate-of c = search needs
