@@ -1,12 +1,37 @@
 // The new non-default table of a selector record: how long it is, a checksum, whether it names a missing glyph, and its bytes.
+use places::PLACES;
+use staying::Staying;
 ghost use mathlib.Core.Path.{_≡_};
 ghost use Prim.Native.Nat.{_+_, _≤_};
 ghost use lib.ListN.{length};
 ghost use lib.Seq.{sets};
 ghost use Rattle.laws.specs.Select.{flat};
 ghost use Rattle.uvs.specs.Checksum.{checksum};
-ghost use Rattle.uvs.specs.NonDefault.{keptMappings, mappingBytes, newNonDefault, badMapping};
+ghost use Rattle.uvs.specs.NonDefault.{mapping, keepsMapping, keptMappings, mappingBytes, newNonDefault, badMapping};
+ghost use Rattle.staying.specs.Staying.{Mapping};
 ghost use Rattle.uvs_mapping.specs.Lent.{Table, Count};
+
+// A table of this many mappings is worth noting the kept points' places, since its mappings may stand in no order.
+const MANY: usize = 16384;
+
+// Whether the mapping at `place` stays, its code point looked for by places noted of the kept points, or with none from `near` on.
+fn keeps_mapping_by(
+    s: &[u8],
+    place: usize,
+    kept: &[u32],
+    requested: &[u16],
+    places: &[u32],
+    near: usize,
+) -> Staying
+    requires { ⌜ Mapping (now s) place (now kept) (now requested) ⌝ }
+    ensures { λ r. ⌜ r .stays ≡ keepsMapping (now (kept .entry)) (now (requested .entry)) (mapping (now (s .entry)) place) ⌝ }
+{
+    if places.len() == 0 {
+        return staying::keeps_mapping(s, place, kept, requested, near);
+    }
+    let i = places::count_by(kept, number::u24_at(s, place), places, near);
+    staying::keeps_mapping(s, place, kept, requested, i)
+}
 
 // How long a new table is, 0 where there is none, a checksum of its bytes, and refusal 8: whether a mapping to be kept names a missing glyph.
 pub struct NonDefaultMeasure {
@@ -16,12 +41,13 @@ pub struct NonDefaultMeasure {
 }
 
 // All in one walk of the source's mappings.
-pub fn measure_non_default(
+fn measure_by(
     s: &[u8],
     p: usize,
     kept: &[u32],
     map: &[u16],
     requested: &[u16],
+    places: &[u32],
 ) -> NonDefaultMeasure
     requires { ⌜ Table (now s) p (now kept) (now requested) ⌝ }
     ensures { λ r. ⌜ r .size ≡ length (newNonDefault (now (s .entry)) p (now (kept .entry)) (now (map .entry)) (now (requested .entry))) ⌝ }
@@ -36,7 +62,7 @@ pub fn measure_non_default(
     let mut bad = false;
     while i < m {
         let from = p + 4 + 5 * i;
-        let looked = staying::keeps_mapping(s, from, kept, requested, near);
+        let looked = keeps_mapping_by(s, from, kept, requested, places, near);
         near = looked.near;
         i += 1;
         if looked.stays {
@@ -60,7 +86,96 @@ pub fn measure_non_default(
     }
 }
 
+// The same, with the places of the kept points noted first.
+fn measure_many(
+    s: &[u8],
+    p: usize,
+    kept: &[u32],
+    map: &[u16],
+    requested: &[u16],
+) -> NonDefaultMeasure
+    requires { ⌜ Table (now s) p (now kept) (now requested) ⌝ }
+    ensures { λ r. ⌜ r .size ≡ length (newNonDefault (now (s .entry)) p (now (kept .entry)) (now (map .entry)) (now (requested .entry))) ⌝ }
+    ensures { λ r. ⌜ r .sum ≡ checksum 5 (newNonDefault (now (s .entry)) p (now (kept .entry)) (now (map .entry)) (now (requested .entry))) ⌝ }
+    ensures { λ r. ⌜ r .bad ≡ badMapping (now (s .entry)) p (now (kept .entry)) (now (map .entry)) (now (requested .entry)) ⌝ }
+{
+    let mut places = [0u32; PLACES];
+    places::note_places(&mut places, kept);
+    measure_by(s, p, kept, map, requested, &places)
+}
+
+pub fn measure_non_default(
+    s: &[u8],
+    p: usize,
+    kept: &[u32],
+    map: &[u16],
+    requested: &[u16],
+) -> NonDefaultMeasure
+    requires { ⌜ Table (now s) p (now kept) (now requested) ⌝ }
+    ensures { λ r. ⌜ r .size ≡ length (newNonDefault (now (s .entry)) p (now (kept .entry)) (now (map .entry)) (now (requested .entry))) ⌝ }
+    ensures { λ r. ⌜ r .sum ≡ checksum 5 (newNonDefault (now (s .entry)) p (now (kept .entry)) (now (map .entry)) (now (requested .entry))) ⌝ }
+    ensures { λ r. ⌜ r .bad ≡ badMapping (now (s .entry)) p (now (kept .entry)) (now (map .entry)) (now (requested .entry)) ⌝ }
+{
+    if number::u32_at(s, p) as usize >= MANY {
+        return measure_many(s, p, kept, map, requested);
+    }
+    let none = [0u32; 0];
+    measure_by(s, p, kept, map, requested, &none)
+}
+
 // Writes every mapping that stays, in the source's order; how many.
+fn copy_by(
+    out: &mut [u8],
+    to: usize,
+    s: &[u8],
+    p: usize,
+    kept: &[u32],
+    map: &[u16],
+    requested: &[u16],
+    places: &[u32],
+) -> usize
+    requires { ⌜ Table (now s) p (now kept) (now requested) ⌝ }
+    requires { ⌜ to + length (flat (mappingBytes (now map)) (keptMappings (now s) p (now kept) (now requested))) ≤ length (now out) ⌝ }
+    ensures { λ r. ⌜ Count (now (s .entry)) p (now (kept .entry)) (now (requested .entry)) r ⌝ }
+    ensures { λ _. ⌜ now (out .exit) ≡ sets (now (out .entry)) to (flat (mappingBytes (now (map .entry))) (keptMappings (now (s .entry)) p (now (kept .entry)) (now (requested .entry)))) ⌝ }
+{
+    let m = number::u32_at(s, p) as usize;
+    let mut i = 0;
+    let mut near = 0;
+    let mut n = 0;
+    while i < m {
+        let from = p + 4 + 5 * i;
+        let found = keeps_mapping_by(s, from, kept, requested, places, near);
+        near = found.near;
+        i += 1;
+        if found.stays {
+            uvs_mapping::copy_uvs_mapping(out, to + 5 * n, s, from, map);
+            n += 1;
+        }
+    }
+    n
+}
+
+// The same, with the places of the kept points noted first.
+fn copy_many(
+    out: &mut [u8],
+    to: usize,
+    s: &[u8],
+    p: usize,
+    kept: &[u32],
+    map: &[u16],
+    requested: &[u16],
+) -> usize
+    requires { ⌜ Table (now s) p (now kept) (now requested) ⌝ }
+    requires { ⌜ to + length (flat (mappingBytes (now map)) (keptMappings (now s) p (now kept) (now requested))) ≤ length (now out) ⌝ }
+    ensures { λ r. ⌜ Count (now (s .entry)) p (now (kept .entry)) (now (requested .entry)) r ⌝ }
+    ensures { λ _. ⌜ now (out .exit) ≡ sets (now (out .entry)) to (flat (mappingBytes (now (map .entry))) (keptMappings (now (s .entry)) p (now (kept .entry)) (now (requested .entry)))) ⌝ }
+{
+    let mut places = [0u32; PLACES];
+    places::note_places(&mut places, kept);
+    copy_by(out, to, s, p, kept, map, requested, &places)
+}
+
 fn copy_mappings(
     out: &mut [u8],
     to: usize,
@@ -75,21 +190,11 @@ fn copy_mappings(
     ensures { λ r. ⌜ Count (now (s .entry)) p (now (kept .entry)) (now (requested .entry)) r ⌝ }
     ensures { λ _. ⌜ now (out .exit) ≡ sets (now (out .entry)) to (flat (mappingBytes (now (map .entry))) (keptMappings (now (s .entry)) p (now (kept .entry)) (now (requested .entry)))) ⌝ }
 {
-    let m = number::u32_at(s, p) as usize;
-    let mut i = 0;
-    let mut near = 0;
-    let mut n = 0;
-    while i < m {
-        let from = p + 4 + 5 * i;
-        let found = staying::keeps_mapping(s, from, kept, requested, near);
-        near = found.near;
-        i += 1;
-        if found.stays {
-            uvs_mapping::copy_uvs_mapping(out, to + 5 * n, s, from, map);
-            n += 1;
-        }
+    if number::u32_at(s, p) as usize >= MANY {
+        return copy_many(out, to, s, p, kept, map, requested);
     }
-    n
+    let none = [0u32; 0];
+    copy_by(out, to, s, p, kept, map, requested, &none)
 }
 
 // Writes the new table, its count after its mappings; nothing where there is none.

@@ -13,8 +13,8 @@ add-byte-at c = search needs
 byte-at-requires : tie.Need-byte-at-requires
 byte-at-requires c κs = search needs
 
-add-mark-points-near : tie.Need-add-mark-points-near
-add-mark-points-near c = search needs
+add-end : tie.Need-add-end
+add-end c = search needs
 
 mark-points-near-requires : tie.Need-mark-points-near-requires
 mark-points-near-requires c κs = search needs
@@ -23,7 +23,16 @@ same-length : tie.Need-same-length
 same-length c = search needs
 
 returns : tie.Need-returns
-returns c = mark-is _ _ _ _ _ _ _ (c .before .before .before .before .before .u24-at .ensures) (c .before .before .before .before .byte-at .ensures) (c .before .before .mark-points-near .ensures .1)
+returns c = mark-is _ _ _ _ _ _ _ (c .before .before .before .before .before .before .u24-at .ensures) (c .before .before .before .before .before .byte-at .ensures) (c .before .before .mark-points-near .ensures .1)
+
+mark-points-by-requires : tie.Need-mark-points-by-requires
+mark-points-by-requires c κs = search needs
+
+same-length-2 : tie.Need-same-length-2
+same-length-2 c = search needs
+
+returns-2 : tie.Need-returns-2
+returns-2 c = mark-is _ _ _ _ _ _ _ (c .before .before .before .before .before .before .u24-at .ensures) (c .before .before .before .before .before .byte-at .ensures) (c .before .before .mark-points-by .ensures)
 
 pub mark-range-spec : {M : Type 1} → statement M
 mark-range-spec =
@@ -32,7 +41,10 @@ mark-range-spec =
     u24-at-requires
     add-byte-at
     byte-at-requires
-    add-mark-points-near
+    add-end
     mark-points-near-requires
     same-length
-    returns)
+    returns
+    mark-points-by-requires
+    same-length-2
+    returns-2)

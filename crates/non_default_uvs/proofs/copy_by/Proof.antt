@@ -1,6 +1,6 @@
 -- What is left, written behind what is written, gives the whole.
-use Rattle.non_default_uvs.proofs.copy_mappings.Statement.{statement}
-use Rattle.non_default_uvs.proofs.copy_mappings.Tie as tie
+use Rattle.non_default_uvs.proofs.copy_by.Statement.{statement}
+use Rattle.non_default_uvs.proofs.copy_by.Tie as tie
 use borrow.Author.Needs.{needs}
 use native.Mathlib.Omega.{arith}
 use Prim.Native.Nat.{_-_}
@@ -9,10 +9,10 @@ use Rattle.uvs.specs.NonDefault.{mappingAt, keepsMapping}
 use Rattle.uvs_mapping.proofs.MappingLaws.{Copies, copies, copies-room, count-all}
 
 abbrev Inv-loop : tie.InvT-loop
-Inv-loop out₀ to s p kept map requested m i₀ near₀ n₀ out i near n = Counting (keepsMapping kept requested) (mappingAt s p) m i n × Copies s p kept map requested m out₀ to out n i
+Inv-loop out₀ to s p kept map requested places m i₀ near₀ n₀ out i near n = Counting (keepsMapping kept requested) (mappingAt s p) m i n × Copies s p kept map requested m out₀ to out n i
 
 abbrev μ-loop : tie.MeasureT-loop
-μ-loop out₀ to s p kept map requested m i₀ near₀ n₀ out i near n = m - i
+μ-loop out₀ to s p kept map requested places m i₀ near₀ n₀ out i near n = m - i
 
 u32-at-requires : tie.Need-u32-at-requires Inv-loop μ-loop
 u32-at-requires c κs = search needs
@@ -32,8 +32,8 @@ mul-from c = search needs
 add-from-2 : tie.Need-add-from-2 Inv-loop μ-loop
 add-from-2 c = search needs
 
-keeps-mapping-requires : tie.Need-keeps-mapping-requires Inv-loop μ-loop
-keeps-mapping-requires c κs = search needs
+keeps-mapping-by-requires : tie.Need-keeps-mapping-by-requires Inv-loop μ-loop
+keeps-mapping-by-requires c κs = search needs
 
 add-i : tie.Need-add-i Inv-loop μ-loop
 add-i c = search needs
@@ -68,8 +68,8 @@ same-length c = search needs
 returns : tie.Need-returns Inv-loop μ-loop
 returns c = (search count-all, search copies)
 
-pub copy-mappings-spec : {M : Type 1} → statement M
-copy-mappings-spec =
+pub copy-by-spec : {M : Type 1} → statement M
+copy-by-spec =
     tie.close
     (tie.spec
     Inv-loop
@@ -80,7 +80,7 @@ copy-mappings-spec =
     add-from
     mul-from
     add-from-2
-    keeps-mapping-requires
+    keeps-mapping-by-requires
     add-i
     mul-copy-uvs-mapping
     add-copy-uvs-mapping

@@ -1,6 +1,6 @@
 -- Mappings passed and mappings still to come give the whole count, the whole checksum, and whether one of all is bad.
-use Rattle.non_default_uvs.proofs.measure_non_default.Statement.{statement}
-use Rattle.non_default_uvs.proofs.measure_non_default.Tie as tie
+use Rattle.non_default_uvs.proofs.measure_by.Statement.{statement}
+use Rattle.non_default_uvs.proofs.measure_by.Tie as tie
 use borrow.Author.Needs.{needs}
 use native.Mathlib.Omega.{arith}
 use Prim.Native.Nat.{_-_}
@@ -12,10 +12,10 @@ use lib.ListN.{length-append}
 use Rattle.number.proofs.BigEndianLaws.{length-enc}
 
 abbrev Inv-loop : tie.InvT-loop
-Inv-loop s p kept map requested m i₀ near₀ n₀ sum₀ bad₀ i near n sum bad = Counting (keepsMapping kept requested) (mappingAt s p) m i n × (Summing 5 (mappingBytes map) (keepsMapping kept requested) (mappingAt s p) m i sum × Judging s p kept map requested m i bad)
+Inv-loop s p kept map requested places m i₀ near₀ n₀ sum₀ bad₀ i near n sum bad = Counting (keepsMapping kept requested) (mappingAt s p) m i n × (Summing 5 (mappingBytes map) (keepsMapping kept requested) (mappingAt s p) m i sum × Judging s p kept map requested m i bad)
 
 abbrev μ-loop : tie.MeasureT-loop
-μ-loop s p kept map requested m i₀ near₀ n₀ sum₀ bad₀ i near n sum bad = m - i
+μ-loop s p kept map requested places m i₀ near₀ n₀ sum₀ bad₀ i near n sum bad = m - i
 
 u32-at-requires : tie.Need-u32-at-requires Inv-loop μ-loop
 u32-at-requires c κs = search needs
@@ -35,8 +35,8 @@ mul-from c = search needs
 add-from-2 : tie.Need-add-from-2 Inv-loop μ-loop
 add-from-2 c = search needs
 
-keeps-mapping-requires : tie.Need-keeps-mapping-requires Inv-loop μ-loop
-keeps-mapping-requires c κs = search needs
+keeps-mapping-by-requires : tie.Need-keeps-mapping-by-requires Inv-loop μ-loop
+keeps-mapping-by-requires c κs = search needs
 
 add-i : tie.Need-add-i Inv-loop μ-loop
 add-i c = search needs
@@ -62,17 +62,17 @@ loop-again-2 c = (search counting, (search summing, search judging))
 returns : tie.Need-returns Inv-loop μ-loop
 returns c = (search lengths, (search sum-all, search judging))
 
-mul-t20 : tie.Need-mul-t20 Inv-loop μ-loop
-mul-t20 c = search needs
+mul-t21 : tie.Need-mul-t21 Inv-loop μ-loop
+mul-t21 c = search needs
 
-add-t21 : tie.Need-add-t21 Inv-loop μ-loop
-add-t21 c = search needs
+add-t22 : tie.Need-add-t22 Inv-loop μ-loop
+add-t22 c = search needs
 
 returns-2 : tie.Need-returns-2 Inv-loop μ-loop
 returns-2 c = (search lengths, (search sum-all, search judging))
 
-pub measure-non-default-spec : {M : Type 1} → statement M
-measure-non-default-spec =
+pub measure-by-spec : {M : Type 1} → statement M
+measure-by-spec =
     tie.close
     (tie.spec
     Inv-loop
@@ -83,7 +83,7 @@ measure-non-default-spec =
     add-from
     mul-from
     add-from-2
-    keeps-mapping-requires
+    keeps-mapping-by-requires
     add-i
     add-n
     mix-mapping-requires
@@ -92,6 +92,6 @@ measure-non-default-spec =
     loop-less-2
     loop-again-2
     returns
-    mul-t20
-    add-t21
+    mul-t21
+    add-t22
     returns-2)

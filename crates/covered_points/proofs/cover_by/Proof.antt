@@ -1,16 +1,16 @@
 -- Marking the ranges still to come gives what marking all of them gives, and that flags every covered point.
-use Rattle.covered_points.proofs.cover.Statement.{statement}
-use Rattle.covered_points.proofs.cover.Tie as tie
+use Rattle.covered_points.proofs.cover_by.Statement.{statement}
+use Rattle.covered_points.proofs.cover_by.Tie as tie
 use borrow.Author.Needs.{needs}
 use native.Mathlib.Omega.{arith}
 use Prim.Native.Nat.{_-_}
 use Rattle.format14.proofs.CoverLaws.{Covering, covering}
 
 abbrev Inv-loop : tie.InvT-loop
-Inv-loop flags₀ s p kept r i₀ near₀ flags i near = Covering s p kept r flags₀ flags i
+Inv-loop flags₀ s p kept places r i₀ near₀ flags i near = Covering s p kept r flags₀ flags i
 
 abbrev μ-loop : tie.MeasureT-loop
-μ-loop flags₀ s p kept r i₀ near₀ flags i near = r - i
+μ-loop flags₀ s p kept places r i₀ near₀ flags i near = r - i
 
 clear-requires : tie.Need-clear-requires Inv-loop μ-loop
 clear-requires c κs = search needs
@@ -34,7 +34,7 @@ add-mark-range-2 : tie.Need-add-mark-range-2 Inv-loop μ-loop
 add-mark-range-2 c = search needs
 
 mark-range-requires : tie.Need-mark-range-requires Inv-loop μ-loop
-mark-range-requires c κs = (search needs, record { rising = c .before .before .before .before .before .before .before .before .before .before .before .pre .rises; beside = omega (arith, c .before .before .loop .inv .same) })
+mark-range-requires c κs = (search needs, record { rising = c .before .before .before .before .before .before .before .before .before .before .before .before .pre .rises; beside = omega (arith, c .before .before .loop .inv .same) })
 
 add-i : tie.Need-add-i Inv-loop μ-loop
 add-i c = search needs
@@ -51,8 +51,8 @@ same-length c = search needs
 returns : tie.Need-returns Inv-loop μ-loop
 returns c = search covering
 
-pub cover-spec : {M : Type 1} → statement M
-cover-spec =
+pub cover-by-spec : {M : Type 1} → statement M
+cover-by-spec =
     tie.close
     (tie.spec
     Inv-loop
