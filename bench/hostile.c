@@ -320,23 +320,71 @@ static void alike_to_the_end(job *j, size_t selectors)
     end14(j, at, off);
 }
 
-/* 512 default tables that lie over one another in the source, each with the ranges from its own place on: each is long and all are unlike.
- * A table's count is a range of the table before it. */
-static void long_windows(job *j, size_t selectors)
+/* Default tables that lie over one another in the source at p, `off` from the subtable at `at`, each with the ranges from its own place on: each
+ * is long and all are unlike. A table's count is a range of the table before it. Gives how long all are together. */
+static size_t put_range_windows(job *j, size_t at, size_t off, size_t tables, size_t ranges, uint32_t base, uint32_t width)
 {
-    enum { RANGES = 257000 };
-    kept14(j, selectors);
-    size_t at = begin14(j, 2, selectors), off = 10 + 11 * selectors, p = at + off;
-    for (size_t i = 0; i < selectors; i++) {
-        tables_of(j, at, i, off + 4 * i, 0);
-        put32(j->source, p + 4 * i, (uint32_t)(RANGES + selectors - 1 - i));
-    }
-    size_t from = p + 4 * selectors;
-    for (size_t i = 0; i < RANGES; i++) {
-        put24(j->source, from + 4 * i, 0x1000 + below(KEPT_MAX));
+    size_t p = at + off, from = p + 4 * tables;
+    for (size_t i = 0; i < tables; i++)
+        put32(j->source, p + 4 * i, (uint32_t)(ranges + tables - 1 - i));
+    for (size_t i = 0; i < ranges; i++) {
+        put24(j->source, from + 4 * i, base + below(width));
         j->source[from + 3 + 4 * i] = 255;
     }
-    end14(j, at, from - at + 4 * RANGES);
+    return 4 * tables + 4 * ranges;
+}
+
+/* 512 such tables, one for each selector */
+static void windows_of_ranges(job *j, size_t selectors, uint32_t width)
+{
+    size_t at = begin14(j, 2, selectors), off = 10 + 11 * selectors;
+    for (size_t i = 0; i < selectors; i++)
+        tables_of(j, at, i, off + 4 * i, 0);
+    end14(j, at, off + put_range_windows(j, at, off, selectors, 257000, 0x1000, width));
+}
+
+static void long_windows(job *j, size_t selectors)
+{
+    kept14(j, selectors);
+    windows_of_ranges(j, selectors, KEPT_MAX);
+}
+
+/* of every two points one is kept, and a hundred of them are listed; which of the two is a matter of chance */
+static void spread(job *j, size_t selectors)
+{
+    for (size_t i = 0; i < j->kept_count - selectors; i++)
+        j->kept[i] = (uint32_t)(2 * i) + below(2);
+    j->pair_count = 100;
+    for (size_t i = 0; i < j->pair_count; i++)
+        j->pairs[i].code = j->kept[i];
+}
+
+static void windows_over_spread(job *j, size_t selectors)
+{
+    kept14(j, selectors);
+    spread(j, selectors);
+    windows_of_ranges(j, selectors, 2 * KEPT_MAX - 0x2000);
+}
+
+/* 63 records, each to a format 14 of its own with 512 selectors, and all of them to the same tables that lie over one another and hold no kept
+ * point. The size is the number of selectors times that of records. */
+static void empty_windows(job *j, size_t size)
+{
+    enum { RANGES = 170000 };
+    size_t records = size < 63 ? 2 : 64, selectors = size / (records - 1), step = 10 + 11 * selectors;
+    lent(j, 60000, 0x1000, 1, KEPT_MAX, 0x1000);
+    keep_selectors(j, selectors);
+    size_t at = begin14(j, records, selectors), tables = at + (records - 1) * step;
+    size_t end = tables + put_range_windows(j, at, tables - at, selectors, RANGES, 0x40000, 0x10000);
+    for (size_t k = records - 1; k >= 1; k--) {
+        size_t own = at + (k - 1) * step;
+        if (k > 1)
+            memcpy(j->source + own, j->source + at, step);
+        put_record(j->source, k, 0, 5, own);
+        for (size_t i = 0; i < selectors; i++)
+            tables_of(j, own, i, tables + 4 * i - own, 0);
+        end14(j, own, end - own);
+    }
 }
 
 /* 512 non-default tables of 200,704 mappings in no order that lie over one another in the source. Each begins two mappings behind the one
@@ -354,6 +402,22 @@ static void mapping_windows(job *j, size_t selectors)
     for (size_t i = 0; i < selectors; i++)
         tables_of(j, at, i, 0, off + 10 * i);
     end14(j, at, off + 4 + 5 * all);
+}
+
+/* the same, of every two points and of every two glyphs one is listed, and each glyph that is looked for is not */
+static void windows_over_requested(job *j, size_t selectors)
+{
+    mapping_windows(j, selectors);
+    spread(j, selectors);
+    j->requested_count = 32767;
+    for (size_t i = 0; i < j->requested_count; i++)
+        j->requested[i] = (uint16_t)(2 * i);
+    size_t grid = 4 + 8 * 64;
+    while (j->source[grid] != 0 || j->source[grid + 1] != 14)
+        grid++;
+    grid += 10 + 11 * selectors + 4;
+    for (size_t k = 2 * selectors; k < 0x31000 + 2 * selectors; k++)
+        j->source[grid + 5 * k + 4] |= 1;
 }
 
 /* 512 unlike default tables that each hold 129,000 kept points, one record a point: a result of 265 million bytes */
@@ -428,11 +492,14 @@ static const struct {
     {"equal tables at different places", equal_tables, "selectors", 512, 1, 64, 1 << 24},
     {"unlike tables of one length, alike to their end", alike_to_the_end, "selectors", 512, 1, 64, (size_t)280 << 20},
     {"tables of 200,704 mappings that share bytes", mapping_windows, "selectors", 512, 1, 256, (size_t)280 << 20},
+    {"the same, every second point kept and every second glyph requested", windows_over_requested, "selectors", 512, 1, 256, (size_t)280 << 20},
     {"tables of 257,000 ranges that share bytes", long_windows, "selectors", 512, 1, 256, 1 << 24},
+    {"the same, every second point kept", windows_over_spread, "selectors", 512, 1, 256, (size_t)280 << 20},
     {"result too long for the output", huge_result, "selectors", 512, 1, 64, 1 << 24},
     {"the same result, with room", huge_result, "selectors", 512, 1, 64, (size_t)280 << 20},
     {"empty format 14 of shared mappings", empty_mappings, "selectors times records", 32256, 1, 4096, 1 << 24},
     {"empty format 14 of shared ranges", empty_ranges, "selectors times records", 32256, 1, 4096, 1 << 24},
+    {"empty and unlike format 14 of tables that share bytes", empty_windows, "selectors times records", 32256, 1, 4096, 1 << 24},
 };
 
 int main(int argc, char **argv)

@@ -1,6 +1,6 @@
 -- The whole output of docs/01-rules.md, "Cases": one job and the bytes that it makes.
 use Prim.Native.Nat.{ℕ}
-use mathlib.Core.List.{List, [], _∷_, _++_}
+use mathlib.Core.List.{List, [], _∷_}
 use Rattle.listing.specs.Job.{Job}
 
 -- C1: a format 4 subtable of 32 bytes

@@ -2,7 +2,7 @@
 use Prim.Native.Nat.{ℕ, _≤_}
 use mathlib.Core.Path.{_≡_}
 use mathlib.Core.List.{List}
-use Rattle.listing.specs.Job.{Job, job}
+use Rattle.listing.specs.Job.{job}
 use Rattle.plan.specs.declared.Outcome.{Outcome}
 use Rattle.plan.specs.Outcomes.{Small}
 use Rattle.plan.specs.Plan.{plan}

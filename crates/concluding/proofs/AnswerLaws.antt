@@ -7,7 +7,7 @@ use native.Mathlib.Omega.{arith}
 use lib.Dec.{ltb, eqb}
 use lib.ListN.{length}
 use lib.Seq.{sets}
-use borrow.Author.Tests.{eq-eqb, ne-eqb, eqb-true, eqb-false, lt-ltb, le-ltb, ltb-true, ltb-false}
+use borrow.Author.Tests.{eq-eqb, ne-eqb, eqb-true, eqb-false, lt-ltb, le-ltb, ltb-false}
 use Rattle.laws.specs.Choice.{pick}
 use Rattle.laws.proofs.ChoiceLaws.{by-pick, by-test}
 use Rattle.laws.proofs.FrontLaws.{sets-front}
@@ -27,7 +27,7 @@ use Rattle.promised.specs.declared.Answer.{Answer}
 use Rattle.promised.specs.declared.Answer.the-variants.{Written, Refused, NoRoom}
 use Rattle.promised.specs.Cmap.{recordsOf, result, numberIn, answerOf, outputOf}
 use Rattle.promised.proofs.NumberLaws.{number-refused, number-passed, refusal-low}
-use Rattle.concluding.specs.Concluding.{Passing, Planned, answerBy}
+use Rattle.concluding.specs.Concluding.{Planned, answerBy}
 
 -- ---- the ways out of the step from the plan
 

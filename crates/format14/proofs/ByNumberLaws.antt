@@ -23,7 +23,7 @@ use Rattle.uvs.proofs.TablesLaws.{counts-head, counts-inside}
 use Rattle.default_ranges.specs.Stream.{Lent}
 use Rattle.uvs_mapping.specs.Lent.{Table}
 use Rattle.format14.proofs.ShapeLaws.{length-default, length-non-default, tables-apart}
-use Rattle.format14.specs.Selectors.{Given, given, keepsSelector, defaultTable, nonDefaultTable, badRecord, badKeptRecord}
+use Rattle.format14.specs.Selectors.{Given, given, keepsSelector, defaultTable, nonDefaultTable, badRecord}
 use Rattle.format14.specs.ByNumber.{slot, badSlot, tableOffset, sourceTable, Source, Readable, Numbered, Size, Both}
 
 -- ---- the size of a record of table t

@@ -2,7 +2,7 @@
 use Prim.Native.Nat.{ℕ, _+_, _-_, _*_, _<_, _≤_}
 use mathlib.Core.Path.{_≡_, refl, sym, ap, _∙_}
 use mathlib.Core.List.{List, [], _∷_, _++_}
-use mathlib.Core.Bool.{Bool, true, false}
+use mathlib.Core.Bool.{Bool}
 use native.Mathlib.Omega.{arith}
 use lib.Dec.{eqb}
 use borrow.Author.Tests.{eqb-true, eqb-false}
@@ -27,7 +27,7 @@ use Rattle.format14.specs.Format14.{Row, rows, written, lengthOf, rowByt
 use Rattle.format14.specs.Ends.{Written, Ends, Total}
 use Rattle.format14.specs.Parts.{outcomeFrom, endsAt}
 use Rattle.format14.proofs.RowsLaws.{written-rows, length-rows, flat-rows}
-use Rattle.format14.proofs.ShortLaws.{Modest, rows-short}
+use Rattle.format14.proofs.ShortLaws.{rows-short}
 
 length-header : (a b : ℕ) → length (header14 a b) ≡ 10
 unfolding header14

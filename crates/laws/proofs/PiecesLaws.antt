@@ -1,5 +1,4 @@
 -- The pieces of a list: joined they give it back, and a walk from the front finds them one after the other.
-use Prim.Native.Nat.{ℕ}
 use mathlib.Core.Path.{_≡_, refl, sym, ap, _∙_}
 use mathlib.Core.List.{List, [], _∷_, _++_, append-assoc}
 use mathlib.Core.Bool.{Bool, true, false}

@@ -1,7 +1,7 @@
 -- Rising lists: a lower place holds a lower number.
 use Prim.Native.Nat.{ℕ, zero, suc, _+_, _-_, _<_, _≤_}
-use mathlib.Core.Path.{_≡_, refl, ap, _∙_}
-use mathlib.Core.List.{List, [], _∷_}
+use mathlib.Core.Path.{_≡_}
+use mathlib.Core.List.{List, _∷_}
 use mathlib.Core.Logic.{⊎-elim}
 use native.Mathlib.Nat.{add-suc, eq-or-lt-of-le}
 use native.Mathlib.Omega.{arith}

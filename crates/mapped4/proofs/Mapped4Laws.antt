@@ -1,8 +1,7 @@
 -- A walk over the segments of a format 4 subtable, for one code point.
-use Prim.Native.Nat.{ℕ, _+_, _*_, _<_, _≤_}
-use mathlib.Core.Path.{_≡_, refl, _∙_}
+use Prim.Native.Nat.{ℕ, _+_, _*_, _<_}
+use mathlib.Core.Path.{_≡_}
 use mathlib.Core.List.{List}
-use mathlib.Core.Bool.{Bool, false}
 use native.Mathlib.Numerals.{add-one}
 use borrow.Author.Tests.{eq-eqb, ne-eqb}
 use Rattle.laws.specs.Choice.{pick}
@@ -10,7 +9,7 @@ use Rattle.laws.specs.Search.{first}
 use Rattle.laws.proofs.SearchLaws.{Looking, looking-start, looking-on, looking-found, looking-none}
 use Rattle.number.specs.BigEndian.{Num}
 use Rattle.mapped4.specs.declared.Segment.{Segment}
-use Rattle.mapped4.specs.Mapped4.{Read4, stops4, holds4, says4, lastSays, among4, maps4}
+use Rattle.mapped4.specs.Mapped4.{Read4, stops4, holds4, says4, lastSays, among4}
 
 -- ---- a segment
 

@@ -3,7 +3,7 @@
 --     relend    a new name δ and the slice as the callee takes it
 --     regain    once ν is dead and the callee has said its last list
 -- The holder's lifetime can't end in between, since the opened borrow has its token.
-use mathlib.Core.Path.{_≡_, refl, sym, ap, subst}
+use mathlib.Core.Path.{_≡_, sym, ap, subst}
 use Prim.Native.Nat.{ℕ}
 use mathlib.Core.List.{List, [], _∷_}
 use lib.ListN.{length}

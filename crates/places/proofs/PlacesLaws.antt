@@ -1,7 +1,7 @@
 -- The places still to be noted, noted from here, give all of them.
-use Prim.Native.Nat.{ℕ, zero, suc, _+_, _-_, _*_, _%_, _^_, _<_, _≤_}
+use Prim.Native.Nat.{ℕ, suc, _+_, _-_, _*_, _%_, _^_, _<_, _≤_}
 use mathlib.Core.Path.{_≡_, refl, _∙_}
-use mathlib.Core.List.{List, _++_, append-nil}
+use mathlib.Core.List.{List, append-nil}
 use native.Mathlib.Nat.{sub-zero}
 use native.Mathlib.Numerals.{add-one}
 use native.Mathlib.Omega.{arith}
@@ -10,7 +10,7 @@ use lib.Seq.{sets}
 use Rattle.laws.specs.Select.{each}
 use Rattle.laws.proofs.FrontLaws.{sets-front}
 use Rattle.laws.proofs.LengthLaws.{length-each}
-use Rattle.marks.specs.Marks.{below, Bound}
+use Rattle.marks.specs.Marks.{Bound}
 use Rattle.places.specs.Places.{placeOf, placesOf}
 
 sets-whole : (l vs : List ℕ) → length vs ≡ length l → sets l 0 vs ≡ vs

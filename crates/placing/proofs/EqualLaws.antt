@@ -6,13 +6,12 @@ use mathlib.Core.Bool.{Bool, true, false}
 use native.Mathlib.Omega.{arith}
 use lib.Dec.{eqb}
 use borrow.Author.Tests.{eqb-true, eqb-false}
-use lib.ListN.{length, getD}
+use lib.ListN.{getD}
 use Rattle.laws.specs.Select.{eqList}
 use Rattle.laws.specs.Choice.{both}
 use Rattle.laws.proofs.ChoiceLaws.{false-true, both-left, by-test}
 use Rattle.laws.proofs.LastsLaws.{eqList-length}
 use Rattle.number.specs.BigEndian.{be}
-use Rattle.uvs.specs.Checksum.{checksum}
 use Rattle.uvs.proofs.ChecksumLaws.{sums-apart}
 use Rattle.format14.specs.Selectors.{Given, given}
 use Rattle.format14.specs.ByNumber.{slot, Readable, All, Lengths, Sums, Both}

@@ -5,7 +5,7 @@ use mathlib.Core.List.{List}
 use mathlib.Core.Logic.{inl, inr}
 use native.Mathlib.Omega.{arith}
 use lib.Dec.{eqb}
-use lib.ListN.{length, getD, set, length-set, replicate, length-replicate}
+use lib.ListN.{getD, set, length-set, replicate, length-replicate}
 use lib.Seq.{getD-set-same, getD-set-other}
 use borrow.Author.Tests.{eqb-true, eqb-false}
 use Rattle.laws.proofs.ChoiceLaws.{by-test}
@@ -22,7 +22,7 @@ use Rattle.format14.specs.Selectors.{given}
 use Rattle.format14.specs.ByNumber.{slot}
 use Rattle.format14.specs.Ends.{Ends}
 use Rattle.plan.specs.declared.Outcome.{Outcome}
-use Rattle.plan.specs.RecordNotes.{Fronted, Ended, Turned}
+use Rattle.plan.specs.RecordNotes.{Fronted, Turned}
 
 -- ---- the first pairs of the lent columns
 

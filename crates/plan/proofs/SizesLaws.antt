@@ -4,7 +4,7 @@ use mathlib.Core.Path.{_≡_, sym, ap, _∙_}
 use mathlib.Core.List.{List}
 use native.Mathlib.Omega.{arith}
 use lib.ListN.{length}
-use Rattle.laws.specs.Lists.{Pair, pairs}
+use Rattle.laws.specs.Lists.{Pair}
 use Rattle.laws.proofs.LengthLaws.{length-map}
 use Rattle.listing.specs.Listing.{listed, codesOf, glyphsOf}
 use Rattle.format4.specs.declared.Size.{Size}

@@ -1,14 +1,10 @@
 -- An accepted result, read back by the definitions of a source, holds the records that the fates name, each leading to a table of the format that was written.
-use Prim.Native.Nat.{ℕ, _+_, _<_, _≤_}
+use Prim.Native.Nat.{ℕ, _<_, _≤_}
 use mathlib.Core.Path.{_≡_, refl, sym, ap, _∙_}
 use mathlib.Core.List.{List}
 use mathlib.Core.Bool.{Bool, true, false}
 use native.Mathlib.Nat.{zero-add}
-use native.Mathlib.Omega.{arith}
-use lib.Dec.{ltb, eqb}
-use lib.ListN.{length}
 use borrow.Author.Tests.{eq-eqb, lt-ltb}
-use Rattle.laws.specs.Choice.{pick}
 use Rattle.laws.proofs.ChoiceLaws.{false-true, by-leb}
 use Rattle.laws.proofs.StandsLaws.{Stands}
 use Rattle.number.specs.BigEndian.{Bytes}

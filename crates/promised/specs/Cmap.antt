@@ -1,7 +1,6 @@
 -- The answer to a job, and what the call leaves in the output (docs/01-rules.md, "Numbers of refusal").
 use Prim.Native.Nat.{ℕ}
 use mathlib.Core.List.{List, [], _∷_, _++_}
-use mathlib.Core.Bool.{Bool}
 use lib.Dec.{ltb, eqb}
 use lib.ListN.{length}
 use Rattle.laws.specs.Choice.{pick}

@@ -5,7 +5,7 @@ use mathlib.Core.List.{List, [], _++_}
 use mathlib.Core.Bool.{true}
 use native.Mathlib.Nat.{zero-add, add-zero}
 use native.Mathlib.Omega.{arith}
-use lib.ListN.{length, length-append}
+use lib.ListN.{length}
 use Rattle.laws.proofs.ChoiceLaws.{by-leb, false-true, by-test}
 use Rattle.laws.proofs.StandsLaws.{Stands, stands-append, stands-whole, stands-behind, stands-before, stands-at}
 use Rattle.number.specs.BigEndian.{enc, Bytes}

@@ -1,5 +1,5 @@
 -- The answer of a segment that does not start above c, by the numbers that were read: rules whose premises stand among a need's facts.
-use Prim.Native.Nat.{ℕ, _+_, _*_, _-_, _/_, _%_, _<_, _≤_}
+use Prim.Native.Nat.{ℕ, _+_, _*_, _-_, _/_, _%_, _≤_}
 use mathlib.Core.Path.{_≡_, refl}
 use mathlib.Core.List.{List}
 use Rattle.laws.proofs.ChoiceLaws.{else-lt, if-eq, else-eq}

@@ -1,10 +1,9 @@
 // The header of a format 14 subtable and its selector records, which know their tables by the distance from the subtable's end.
 ghost use mathlib.Core.Path.{_≡_};
 ghost use Prim.Native.Nat.{_+_, _*_, _<_, _≤_};
-ghost use lib.ListN.{length, getD};
+ghost use lib.ListN.{length};
 ghost use lib.Seq.{sets};
 ghost use Rattle.laws.specs.Select.{flat};
-ghost use Rattle.number.specs.BigEndian.{be};
 ghost use Rattle.format14.specs.SelectorRecords.{usedAt, usedRecords, offsetFor, recordBytes, recordAt, header14, Distances, Far};
 
 // Whether record k has a table.

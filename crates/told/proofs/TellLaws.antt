@@ -1,9 +1,8 @@
 -- An answer is told by the numbers that the code has of it.
 use Prim.Native.Nat.{ℕ}
-use mathlib.Core.Path.{_≡_, refl, ap, _∙_}
+use mathlib.Core.Path.{_≡_, ap, _∙_}
 use Rattle.promised.specs.declared.Answer.{Answer}
 use Rattle.promised.specs.declared.Fate.{Fate}
-use Rattle.promised.specs.declared.FateKind.{FateKind}
 use Rattle.promised.specs.Cmap.{numberOf, lengthOf, recordsOf}
 use Rattle.promised.specs.Fates.{numberOf as fateNumberOf}
 use Rattle.heads.specs.declared.Answer.{Answer as Printed}

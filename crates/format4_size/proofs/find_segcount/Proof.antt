@@ -1,10 +1,6 @@
 -- Counting what the first pair of each run commits, and then what is left and the closing segment, counts the whole cut.
 use Rattle.format4_size.proofs.find_segcount.Statement.{statement}
 use Rattle.format4_size.proofs.find_segcount.Tie as tie
-use Rattle.format4.proofs.RangeCounter.absorb.Reads as RangeCounter-absorb-reads
-use Rattle.format4.proofs.RangeCounter.new.Reads as RangeCounter-new-reads
-use Rattle.ranges.proofs.RangeState.absorb.Reads as RangeState-absorb-reads
-use Rattle.ranges.proofs.RangeState.new.Reads as RangeState-new-reads
 use Prim.Native.Nat.{_-_}
 use lib.ListN.{length}
 use borrow.Author.Needs.{needs}

@@ -1,7 +1,6 @@
 -- What the first pair of each run commits is written behind what was; with the rest and the closing segment it is every column.
 use Rattle.format4_writer.proofs.write_columns.Statement.{statement}
 use Rattle.format4_writer.proofs.write_columns.Tie as tie
-use Rattle.ranges.proofs.RangeState.absorb.Reads as RangeState-absorb-reads
 use borrow.Author.Needs.{needs}
 use Rattle.segment_writer.proofs.WalkLaws.{Writing, writing-start, writing-room, writing-on, ending-room, closing-room, ended-long, ended-is}
 use lib.ListN.{length}

@@ -1,5 +1,4 @@
 -- What is left to note, noted from here, gives the whole.
-use native.Mathlib.Omega.{arith}
 use Prim.Native.Nat.{_-_}
 use lib.ListN.{length}
 use Rattle.places.proofs.PlacesLaws.{Noting, noting}
