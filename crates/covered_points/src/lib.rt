@@ -1,4 +1,5 @@
 // Which of the kept points the ranges of a default table cover.
+use places::MANY;
 use places::PLACES;
 ghost use mathlib.Core.Path.{_≡_};
 ghost use Prim.Native.Nat.{_+_, _<_, _≤_};
@@ -7,9 +8,6 @@ ghost use lib.Seq.{sets};
 ghost use Rattle.marks.specs.Marks.{between, marked, flagged, Flags};
 ghost use Rattle.uvs.specs.Default.{range, covers, coveredBy};
 ghost use Rattle.default_ranges.specs.Stream.{Lent};
-
-// A table of this many ranges is worth noting the kept points' places, since its ranges may stand in no order.
-const MANY: usize = 16384;
 
 // Sets the flags of the points from start to end, both included, by the places noted; how many points are at most end.
 fn mark_points_by(

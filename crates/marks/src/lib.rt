@@ -5,7 +5,7 @@ ghost use Rattle.laws.specs.Lists.{Rising};
 ghost use Rattle.marks.specs.Marks.{holds, Bound, Halving, AtLeast};
 
 // The bound may be one past the greatest u32.
-fn halve(points: &[u32], c: u64, from: usize, upto: usize) -> usize
+pub fn halve(points: &[u32], c: u64, from: usize, upto: usize) -> usize
     requires { ⌜ Rising (now points) ⌝ }
     requires { ⌜ Halving (now points) c from upto ⌝ }
     ensures { λ r. ⌜ Bound (now (points .entry)) c r ⌝ }

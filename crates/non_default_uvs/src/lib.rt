@@ -1,4 +1,5 @@
 // The new non-default table of a selector record: how long it is, a checksum, whether it names a missing glyph, and its bytes.
+use places::MANY;
 use places::PLACES;
 use staying::Staying;
 ghost use mathlib.Core.Path.{_≡_};
@@ -10,9 +11,6 @@ ghost use Rattle.uvs.specs.Checksum.{checksum};
 ghost use Rattle.uvs.specs.NonDefault.{mapping, keepsMapping, keptMappings, mappingBytes, newNonDefault, badMapping};
 ghost use Rattle.staying.specs.Staying.{Mapping};
 ghost use Rattle.uvs_mapping.specs.Lent.{Table, Count};
-
-// A table of this many mappings is worth noting the kept points' places, since its mappings may stand in no order.
-const MANY: usize = 16384;
 
 // Whether the mapping at `place` stays, its code point looked for by places noted of the kept points, or with none from `near` on.
 fn keeps_mapping_by(

@@ -7,7 +7,7 @@ ghost use Rattle.laws.specs.Lists.{Rising};
 ghost use Rattle.marks.specs.Marks.{below, passed, listedWhole, Bound};
 
 // Whether the first i points are below c.
-fn reaches(points: &[u32], c: u64, i: usize) -> bool
+pub fn reaches(points: &[u32], c: u64, i: usize) -> bool
     requires { ⌜ Rising (now points) ⌝ }
     requires { ⌜ i ≤ length (now points) ⌝ }
     ensures { λ r. ⌜ r ≡ leb i (below (now (points .entry)) c) ⌝ }
@@ -19,7 +19,7 @@ fn reaches(points: &[u32], c: u64, i: usize) -> bool
 }
 
 // Whether none but the first i points are below c.
-fn suffices(points: &[u32], c: u64, i: usize) -> bool
+pub fn suffices(points: &[u32], c: u64, i: usize) -> bool
     requires { ⌜ Rising (now points) ⌝ }
     requires { ⌜ i ≤ length (now points) ⌝ }
     ensures { λ r. ⌜ r ≡ leb (below (now (points .entry)) c) i ⌝ }
@@ -45,7 +45,7 @@ fn is_count(points: &[u32], c: u64, i: usize) -> bool
 }
 
 // How many points are below c, with no search where `near` is that count.
-fn count_at(points: &[u32], c: u64, near: usize) -> usize
+pub fn count_at(points: &[u32], c: u64, near: usize) -> usize
     requires { ⌜ Rising (now points) ⌝ }
     ensures { λ r. ⌜ Bound (now (points .entry)) c r ⌝ }
 {

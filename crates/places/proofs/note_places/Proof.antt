@@ -15,11 +15,11 @@ abbrev μ-loop : tie.MeasureT-loop
 loop-holds : tie.Need-loop-holds Inv-loop μ-loop
 loop-holds c = search noting
 
-mul-count-near : tie.Need-mul-count-near Inv-loop μ-loop
-mul-count-near c = search needs
+mul-count-at : tie.Need-mul-count-at Inv-loop μ-loop
+mul-count-at c = search needs
 
-count-near-requires : tie.Need-count-near-requires Inv-loop μ-loop
-count-near-requires c κs = search needs
+count-at-requires : tie.Need-count-at-requires Inv-loop μ-loop
+count-at-requires c κs = search needs
 
 cast-places : tie.Need-cast-places Inv-loop μ-loop
 cast-places c = search needs
@@ -52,8 +52,8 @@ note-places-spec =
     Inv-loop
     μ-loop
     loop-holds
-    mul-count-near
-    count-near-requires
+    mul-count-at
+    count-at-requires
     cast-places
     mul-places
     slice-write-places
