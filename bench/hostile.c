@@ -335,18 +335,18 @@ static size_t put_range_windows(job *j, size_t at, size_t off, size_t tables, si
 }
 
 /* 512 such tables, one for each selector */
-static void windows_of_ranges(job *j, size_t selectors, uint32_t width)
+static void windows_of_ranges(job *j, size_t selectors, size_t ranges, uint32_t width)
 {
     size_t at = begin14(j, 2, selectors), off = 10 + 11 * selectors;
     for (size_t i = 0; i < selectors; i++)
         tables_of(j, at, i, off + 4 * i, 0);
-    end14(j, at, off + put_range_windows(j, at, off, selectors, 257000, 0x1000, width));
+    end14(j, at, off + put_range_windows(j, at, off, selectors, ranges, 0x1000, width));
 }
 
 static void long_windows(job *j, size_t selectors)
 {
     kept14(j, selectors);
-    windows_of_ranges(j, selectors, KEPT_MAX);
+    windows_of_ranges(j, selectors, 257000, KEPT_MAX);
 }
 
 /* of every two points one is kept, and a hundred of them are listed; which of the two is a matter of chance */
@@ -363,7 +363,15 @@ static void windows_over_spread(job *j, size_t selectors)
 {
     kept14(j, selectors);
     spread(j, selectors);
-    windows_of_ranges(j, selectors, 2 * KEPT_MAX - 0x2000);
+    windows_of_ranges(j, selectors, 257000, 2 * KEPT_MAX - 0x2000);
+}
+
+/* too few ranges in each for the library to note places */
+static void shorter_windows(job *j, size_t selectors)
+{
+    kept14(j, selectors);
+    spread(j, selectors);
+    windows_of_ranges(j, selectors, 32000, 2 * KEPT_MAX - 0x2000);
 }
 
 /* 63 records, each to a format 14 of its own with 512 selectors, and all of them to the same tables that lie over one another and hold no kept
@@ -495,6 +503,7 @@ static const struct {
     {"the same, every second point kept and every second glyph requested", windows_over_requested, "selectors", 512, 1, 256, (size_t)280 << 20},
     {"tables of 257,000 ranges that share bytes", long_windows, "selectors", 512, 1, 256, 1 << 24},
     {"the same, every second point kept", windows_over_spread, "selectors", 512, 1, 256, (size_t)280 << 20},
+    {"tables of 32,000 ranges that share bytes, every second point kept", shorter_windows, "selectors", 512, 1, 256, (size_t)280 << 20},
     {"result too long for the output", huge_result, "selectors", 512, 1, 64, 1 << 24},
     {"the same result, with room", huge_result, "selectors", 512, 1, 64, (size_t)280 << 20},
     {"empty format 14 of shared mappings", empty_mappings, "selectors times records", 32256, 1, 4096, 1 << 24},

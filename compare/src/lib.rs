@@ -7,6 +7,7 @@ pub mod aimed;
 pub mod case;
 pub mod domain;
 pub mod job;
+pub mod large;
 pub mod model;
 pub mod published;
 pub mod rng;

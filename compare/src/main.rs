@@ -1,6 +1,7 @@
 //! compare agreed PROGRAM [--exact] [--from SEED] [--count N]   jobs of the agreed domain, against the crate
 //! compare aimed PROGRAM [--exact]                              a job for each recorded difference
 //! compare wild [--from SEED] [--count N]                       damaged jobs, for every implementation at hand
+//! compare large [--from SEED] [--count N]                      jobs with large tables in no order, likewise
 //! compare show agreed|wild SEED                                one job's bytes on standard output
 //! compare sample PROGRAM DIRECTORY                             agreed jobs to store, with the crate's answers
 //!
@@ -13,7 +14,8 @@ use compare::published::{Published, Reply};
 use compare::shrink::shrink;
 use compare::subsetter::{Library, Plain, Subsetter};
 use compare::verdict::{against_itself, against_other, against_program, against_published, told, told_reply};
-use compare::{aimed, job::Job, sample, through, wild};
+use compare::wild::Wild;
+use compare::{aimed, job::Job, large, sample, through, wild};
 use crustedlane::plain::{Answer, FateKind};
 use std::collections::BTreeMap;
 use std::io::Write;
@@ -70,7 +72,8 @@ fn main() {
     let failed = match arguments.words.first().map(String::as_str) {
         Some("agreed") => run_agreed(&arguments),
         Some("aimed") => run_aimed(&arguments),
-        Some("wild") => run_wild(&arguments),
+        Some("wild") => run_wild(&arguments, wild::wild),
+        Some("large") => run_wild(&arguments, large::large),
         Some("show") => show(&arguments),
         Some("sample") => {
             let directory = arguments.words.get(2).expect("a directory");
@@ -78,7 +81,7 @@ fn main() {
             false
         }
         _ => {
-            eprintln!("compare agreed PROGRAM | aimed PROGRAM | wild | show agreed|wild SEED | sample PROGRAM DIRECTORY");
+            eprintln!("compare agreed PROGRAM | aimed PROGRAM | wild | large | show agreed|wild SEED | sample PROGRAM DIRECTORY");
             true
         }
     };
@@ -273,12 +276,12 @@ fn run_aimed(arguments: &Arguments) -> bool {
     false
 }
 
-fn run_wild(arguments: &Arguments) -> bool {
+fn run_wild(arguments: &Arguments, made: fn(u64) -> Wild) -> bool {
     let implementations = implementations();
     let s = &*implementations[0];
     let (mut counts, mut differences) = (Counts::default(), 0);
     for seed in arguments.from..arguments.from + arguments.count {
-        let wild = wild::wild(seed);
+        let wild = made(seed);
         let answer = s.subset(&wild.job, usize::MAX);
         counts.add(match answer {
             Answer::Refused(number) => format!("answer {number}"),

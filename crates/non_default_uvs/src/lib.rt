@@ -1,34 +1,24 @@
 // The new non-default table of a selector record: how long it is, a checksum, whether it names a missing glyph, and its bytes.
 use places::MANY;
 use places::PLACES;
-use staying::Staying;
 ghost use mathlib.Core.Path.{_≡_};
 ghost use Prim.Native.Nat.{_+_, _≤_};
 ghost use lib.ListN.{length};
 ghost use lib.Seq.{sets};
 ghost use Rattle.laws.specs.Select.{flat};
 ghost use Rattle.uvs.specs.Checksum.{checksum};
-ghost use Rattle.uvs.specs.NonDefault.{mapping, keepsMapping, keptMappings, mappingBytes, newNonDefault, badMapping};
-ghost use Rattle.staying.specs.Staying.{Mapping};
+ghost use Rattle.uvs.specs.NonDefault.{keptMappings, mappingBytes, newNonDefault, badMapping};
+ghost use Rattle.laws.specs.Lists.{Rising};
 ghost use Rattle.uvs_mapping.specs.Lent.{Table, Count};
 
-// Whether the mapping at `place` stays, its code point looked for by places noted of the kept points, or with none from `near` on.
-fn keeps_mapping_by(
-    s: &[u8],
-    place: usize,
-    kept: &[u32],
-    requested: &[u16],
-    places: &[u32],
-    near: usize,
-) -> Staying
-    requires { ⌜ Mapping (now s) place (now kept) (now requested) ⌝ }
-    ensures { λ r. ⌜ r .stays ≡ keepsMapping (now (kept .entry)) (now (requested .entry)) (mapping (now (s .entry)) place) ⌝ }
+// From where the code point of the mapping at `place` is looked for among the kept ones: by places noted of them, or with none `near`.
+fn near_by(s: &[u8], place: usize, kept: &[u32], places: &[u32], near: usize) -> usize
+    requires { ⌜ (place + 3 ≤ length (now s)) × Rising (now kept) ⌝ }
 {
     if places.len() == 0 {
-        return staying::keeps_mapping(s, place, kept, requested, near);
+        return near;
     }
-    let i = places::count_by(kept, number::u24_at(s, place), places, near);
-    staying::keeps_mapping(s, place, kept, requested, i)
+    places::count_by(kept, number::u24_at(s, place), places, near)
 }
 
 // How long a new table is, 0 where there is none, a checksum of its bytes, and refusal 8: whether a mapping to be kept names a missing glyph.
@@ -60,7 +50,8 @@ fn measure_by(
     let mut bad = false;
     while i < m {
         let from = p + 4 + 5 * i;
-        let looked = keeps_mapping_by(s, from, kept, requested, places, near);
+        near = near_by(s, from, kept, places, near);
+        let looked = staying::keeps_mapping(s, from, kept, requested, near);
         near = looked.near;
         i += 1;
         if looked.stays {
@@ -143,7 +134,8 @@ fn copy_by(
     let mut n = 0;
     while i < m {
         let from = p + 4 + 5 * i;
-        let found = keeps_mapping_by(s, from, kept, requested, places, near);
+        near = near_by(s, from, kept, places, near);
+        let found = staying::keeps_mapping(s, from, kept, requested, near);
         near = found.near;
         i += 1;
         if found.stays {

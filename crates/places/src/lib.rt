@@ -12,7 +12,7 @@ ghost use Rattle.places.specs.Places.{placesOf};
 pub const PLACES: usize = 8705;
 
 // A table of this many records, which may stand in no order, is worth noting places for.
-pub const MANY: usize = 65536;
+pub const MANY: usize = 32768;
 
 // Notes how many points are below each multiple of 128, from 0 on, as many as there is room for.
 pub fn note_places(places: &mut [u32], points: &[u32])
