@@ -6,19 +6,21 @@ ghost use Prim.Native.Nat.{_+_, _≤_};
 ghost use lib.ListN.{length};
 ghost use lib.Seq.{sets};
 ghost use Rattle.laws.specs.Select.{flat};
+ghost use Rattle.marks.specs.Marks.{Bound};
 ghost use Rattle.uvs.specs.Checksum.{checksum};
 ghost use Rattle.uvs.specs.NonDefault.{keptMappings, mappingBytes, newNonDefault, badMapping};
 ghost use Rattle.laws.specs.Lists.{Rising};
 ghost use Rattle.uvs_mapping.specs.Lent.{Table, Count};
 
-// From where the code point of the mapping at `place` is looked for among the kept ones: by places noted of them, or with none `near`.
-fn near_by(s: &[u8], place: usize, kept: &[u32], places: &[u32], near: usize) -> usize
-    requires { ⌜ (place + 3 ≤ length (now s)) × Rising (now kept) ⌝ }
+// How many kept points are below c: by places noted of them, or with none from `near` on.
+fn count_for(kept: &[u32], c: u32, places: &[u32], near: usize) -> usize
+    requires { ⌜ Rising (now kept) ⌝ }
+    ensures { λ r. ⌜ Bound (now (kept .entry)) c r ⌝ }
 {
     if places.len() == 0 {
-        return near;
+        return staying::count_next(kept, c, near);
     }
-    places::count_by(kept, number::u24_at(s, place), places, near)
+    places::count_by(kept, c, places, near)
 }
 
 // How long a new table is, 0 where there is none, a checksum of its bytes, and refusal 8: whether a mapping to be kept names a missing glyph.
@@ -50,11 +52,11 @@ fn measure_by(
     let mut bad = false;
     while i < m {
         let from = p + 4 + 5 * i;
-        near = near_by(s, from, kept, places, near);
-        let looked = staying::keeps_mapping(s, from, kept, requested, near);
-        near = looked.near;
+        let c = number::u24_at(s, from);
+        near = count_for(kept, c, places, near);
         i += 1;
-        if looked.stays {
+        let stays = staying::stays_at(s, from, kept, requested, c, near);
+        if stays {
             n += 1;
             let more = uvs_mapping::mix_mapping(sum, bad, s, from, map);
             sum = more.sum;
@@ -134,11 +136,10 @@ fn copy_by(
     let mut n = 0;
     while i < m {
         let from = p + 4 + 5 * i;
-        near = near_by(s, from, kept, places, near);
-        let found = staying::keeps_mapping(s, from, kept, requested, near);
-        near = found.near;
+        let c = number::u24_at(s, from);
+        near = count_for(kept, c, places, near);
         i += 1;
-        if found.stays {
+        if staying::stays_at(s, from, kept, requested, c, near) {
             uvs_mapping::copy_uvs_mapping(out, to + 5 * n, s, from, map);
             n += 1;
         }

@@ -2,6 +2,7 @@
 ghost use mathlib.Core.Path.{_≡_};
 ghost use Rattle.laws.specs.Lists.{Rising};
 ghost use Rattle.marks.specs.Marks.{holds, Bound};
+ghost use Rattle.number.specs.BigEndian.{Num};
 ghost use Rattle.uvs.specs.NonDefault.{mapping, keepsMapping};
 ghost use Rattle.staying.specs.Staying.{Mapping};
 
@@ -16,7 +17,7 @@ fn step(kept: &[u32], c: u32, i: usize) -> usize {
 }
 
 // How many kept points are below c; found at once where it is `near` or the next number, which changes the time alone.
-fn count_at(kept: &[u32], c: u32, near: usize) -> usize
+pub fn count_next(kept: &[u32], c: u32, near: usize) -> usize
     requires { ⌜ Rising (now kept) ⌝ }
     ensures { λ r. ⌜ Bound (now (kept .entry)) c r ⌝ }
 {
@@ -45,6 +46,21 @@ fn stands_at(kept: &[u32], c: u32, i: usize) -> bool
     false
 }
 
+// Whether the mapping at `place` stays, which has the code point c with i kept points below it.
+pub fn stays_at(s: &[u8], place: usize, kept: &[u32], requested: &[u16], c: u32, i: usize) -> bool
+    requires { ⌜ Mapping (now s) place (now kept) (now requested) ⌝ }
+    requires { ⌜ Num 3 (now s) place c × Bound (now kept) c i ⌝ }
+    ensures { λ r. ⌜ r ≡ keepsMapping (now (kept .entry)) (now (requested .entry)) (mapping (now (s .entry)) place) ⌝ }
+{
+    if stands_at(kept, c, i) {
+        return true;
+    }
+    if requested.len() == 0 {
+        return false;
+    }
+    marks::member_glyph(requested, number::u16_at(s, place + 3) as u16)
+}
+
 // Whether a mapping stays, and how many kept points are below its code point, from where the next one is looked for.
 pub struct Staying {
     pub stays: bool,
@@ -63,22 +79,7 @@ pub fn keeps_mapping(
     ensures { λ r. ⌜ r .stays ≡ keepsMapping (now (kept .entry)) (now (requested .entry)) (mapping (now (s .entry)) place) ⌝ }
 {
     let c = number::u24_at(s, place);
-    let i = count_at(kept, c, near);
-    if stands_at(kept, c, i) {
-        return Staying {
-            stays: true,
-            near: i,
-        };
-    }
-    if requested.len() == 0 {
-        return Staying {
-            stays: false,
-            near: i,
-        };
-    }
-    let asked = marks::member_glyph(requested, number::u16_at(s, place + 3) as u16);
-    Staying {
-        stays: asked,
-        near: i,
-    }
+    let i = count_next(kept, c, near);
+    let stays = stays_at(s, place, kept, requested, c, i);
+    Staying { stays, near: i }
 }

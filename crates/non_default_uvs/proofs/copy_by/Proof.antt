@@ -32,14 +32,17 @@ mul-from c = search needs
 add-from-2 : tie.Need-add-from-2 Inv-loop μ-loop
 add-from-2 c = search needs
 
-near-by-requires : tie.Need-near-by-requires Inv-loop μ-loop
-near-by-requires c κs = (search needs, search needs)
+u24-at-requires : tie.Need-u24-at-requires Inv-loop μ-loop
+u24-at-requires c κs = search needs
 
-keeps-mapping-requires : tie.Need-keeps-mapping-requires Inv-loop μ-loop
-keeps-mapping-requires c κs = search needs
+count-for-requires : tie.Need-count-for-requires Inv-loop μ-loop
+count-for-requires c κs = search needs
 
 add-i : tie.Need-add-i Inv-loop μ-loop
 add-i c = search needs
+
+stays-at-requires : tie.Need-stays-at-requires Inv-loop μ-loop
+stays-at-requires c κs = (search needs, search needs)
 
 mul-copy-uvs-mapping : tie.Need-mul-copy-uvs-mapping Inv-loop μ-loop
 mul-copy-uvs-mapping c = search needs
@@ -83,9 +86,10 @@ copy-by-spec =
     add-from
     mul-from
     add-from-2
-    near-by-requires
-    keeps-mapping-requires
+    u24-at-requires
+    count-for-requires
     add-i
+    stays-at-requires
     mul-copy-uvs-mapping
     add-copy-uvs-mapping
     copy-uvs-mapping-requires

@@ -35,14 +35,17 @@ mul-from c = search needs
 add-from-2 : tie.Need-add-from-2 Inv-loop μ-loop
 add-from-2 c = search needs
 
-near-by-requires : tie.Need-near-by-requires Inv-loop μ-loop
-near-by-requires c κs = (search needs, search needs)
+u24-at-requires : tie.Need-u24-at-requires Inv-loop μ-loop
+u24-at-requires c κs = search needs
 
-keeps-mapping-requires : tie.Need-keeps-mapping-requires Inv-loop μ-loop
-keeps-mapping-requires c κs = search needs
+count-for-requires : tie.Need-count-for-requires Inv-loop μ-loop
+count-for-requires c κs = search needs
 
 add-i : tie.Need-add-i Inv-loop μ-loop
 add-i c = search needs
+
+stays-at-requires : tie.Need-stays-at-requires Inv-loop μ-loop
+stays-at-requires c κs = (search needs, search needs)
 
 add-n : tie.Need-add-n Inv-loop μ-loop
 add-n c = search needs
@@ -65,11 +68,11 @@ loop-again-2 c = (search counting, (search summing, search judging))
 returns : tie.Need-returns Inv-loop μ-loop
 returns c = (search lengths, (search sum-all, search judging))
 
-mul-t21 : tie.Need-mul-t21 Inv-loop μ-loop
-mul-t21 c = search needs
+mul-t22 : tie.Need-mul-t22 Inv-loop μ-loop
+mul-t22 c = search needs
 
-add-t22 : tie.Need-add-t22 Inv-loop μ-loop
-add-t22 c = search needs
+add-t23 : tie.Need-add-t23 Inv-loop μ-loop
+add-t23 c = search needs
 
 returns-2 : tie.Need-returns-2 Inv-loop μ-loop
 returns-2 c = (search lengths, (search sum-all, search judging))
@@ -86,9 +89,10 @@ measure-by-spec =
     add-from
     mul-from
     add-from-2
-    near-by-requires
-    keeps-mapping-requires
+    u24-at-requires
+    count-for-requires
     add-i
+    stays-at-requires
     add-n
     mix-mapping-requires
     loop-less
@@ -96,6 +100,6 @@ measure-by-spec =
     loop-less-2
     loop-again-2
     returns
-    mul-t21
-    add-t22
+    mul-t22
+    add-t23
     returns-2)

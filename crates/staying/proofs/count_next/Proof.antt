@@ -1,7 +1,7 @@
 -- Where the point at the place is not below c and the one before it is, the place is the count.
 use borrow.Author.Needs.{needs}
-use Rattle.staying.proofs.count_at.Statement.{statement}
-use Rattle.staying.proofs.count_at.Tie as tie
+use Rattle.staying.proofs.count_next.Statement.{statement}
+use Rattle.staying.proofs.count_next.Tie as tie
 use Rattle.staying.proofs.StayingLaws.{bounds}
 
 step-requires : tie.Need-step-requires
@@ -34,8 +34,8 @@ count-near-requires c κs = search needs
 returns-3 : tie.Need-returns-3
 returns-3 c = search needs
 
-pub count-at-spec : {M : Type 1} → statement M
-count-at-spec =
+pub count-next-spec : {M : Type 1} → statement M
+count-next-spec =
     tie.close
     (tie.spec
     step-requires

@@ -1,14 +1,8 @@
 -- The lists answer as they hold, and the two answers are joined as the definition joins them; an empty list holds nothing.
-use Rattle.staying.proofs.keeps_mapping.Statement.{statement}
-use Rattle.staying.proofs.keeps_mapping.Tie as tie
+use Rattle.staying.proofs.stays_at.Statement.{statement}
+use Rattle.staying.proofs.stays_at.Tie as tie
 use Rattle.staying.proofs.StayingLaws.{keeps-rules}
 use borrow.Author.Needs.{needs}
-
-u24-at-requires : tie.Need-u24-at-requires
-u24-at-requires c κs = search needs
-
-count-at-requires : tie.Need-count-at-requires
-count-at-requires c κs = search needs
 
 stands-at-requires : tie.Need-stands-at-requires
 stands-at-requires c κs = search needs
@@ -34,12 +28,10 @@ member-glyph-requires c κs = search needs
 returns-3 : tie.Need-returns-3
 returns-3 c = search keeps-rules
 
-pub keeps-mapping-spec : {M : Type 1} → statement M
-keeps-mapping-spec =
+pub stays-at-spec : {M : Type 1} → statement M
+stays-at-spec =
     tie.close
     (tie.spec
-    u24-at-requires
-    count-at-requires
     stands-at-requires
     returns
     returns-2
