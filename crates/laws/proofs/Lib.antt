@@ -5,6 +5,7 @@ pub mod RisingLaws
 pub mod PiecesLaws
 pub mod SomeLaws
 pub mod StandsLaws
+pub mod StoringLaws
 pub mod EitherLaws
 pub mod PiecesFirstLaws
 pub mod EachLaws

@@ -95,6 +95,7 @@ fn measure_many(
     measure_by(s, p, kept, map, requested, &places)
 }
 
+// The same, with places noted where the table is large.
 pub fn measure_non_default(
     s: &[u8],
     p: usize,
@@ -167,6 +168,7 @@ fn copy_many(
     copy_by(out, to, s, p, kept, map, requested, &places)
 }
 
+// The same, with places noted where the table is large.
 fn copy_mappings(
     out: &mut [u8],
     to: usize,

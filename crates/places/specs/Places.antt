@@ -1,4 +1,4 @@
--- How many of a list of numbers are below every 128th number.
+-- Inner: how many of a list of numbers are below every 128th number; no promise names it.
 use Prim.Native.Nat.{ℕ, _*_, _%_, _^_}
 use mathlib.Core.List.{List}
 use Rattle.laws.specs.Select.{each}

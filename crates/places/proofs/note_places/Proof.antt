@@ -1,13 +1,15 @@
 -- What is left to note, noted from here, gives the whole.
 use Prim.Native.Nat.{_-_}
 use lib.ListN.{length}
-use Rattle.places.proofs.PlacesLaws.{Noting, noting}
+use Rattle.laws.proofs.StoringLaws.{Storing}
+use Rattle.places.specs.Places.{placeOf}
+use Rattle.places.proofs.PlacesLaws.{noting}
 use borrow.Author.Needs.{needs}
 use Rattle.places.proofs.note_places.Statement.{statement}
 use Rattle.places.proofs.note_places.Tie as tie
 
 abbrev Inv-loop : tie.InvT-loop
-Inv-loop places₀ points b₀ i₀ places b i = Noting points places₀ places b
+Inv-loop places₀ points b₀ i₀ places b i = Storing (placeOf points) (length places₀) places₀ places b
 
 abbrev μ-loop : tie.MeasureT-loop
 μ-loop places₀ points b₀ i₀ places b i = length places₀ - b
