@@ -1,5 +1,5 @@
 #!/usr/bin/env python3
-"""Packs stored jobs and their answers into the two files that `rt` replays the crate `vectors` on.
+"""Packs stored jobs and their answers into the two files that `rt` replays the crate `job_vectors` on.
 To add or change a job: unpack, put NAME.job and NAME.out there, pack, and commit what it writes.
 
     pack_vectors.py unpack CRATE DIR   writes NAME.job and NAME.out for each vector

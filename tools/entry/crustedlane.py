@@ -13,14 +13,14 @@ ROOMS = {'codes': ('codesAfter ' + ALL, 'choice.pick {t} cs (laid {cs} cs)'), 'g
 
 ENTRIES = [
     dict(fn='cmap_subset', answer='SubsetAnswer', params=SHARED + [('out', 'mut', 'u8', 'out')], sizes=SIZES, core='subset_on_room', core_takes=CORE + ['out'],
-         uses=['Rattle.promised.specs.declared.Answer.the-variants.{Refused}', 'Rattle.promised.specs.Cmap.{answerOf, outputOf}',
-               'Rattle.told.specs.Told.{told}', 'Rattle.calls.specs.Calls.{subsetOf, codesAfter, glyphsAfter, outAfter}'],
+         uses=['Rattle.cmap_promise.specs.declared.Answer.the-variants.{Refused}', 'Rattle.cmap_promise.specs.Cmap.{answerOf, outputOf}',
+               'Rattle.host_told.specs.Told.{told}', 'Rattle.host_calls.specs.Calls.{subsetOf, codesAfter, glyphsAfter, outAfter}'],
          refused=('told (Refused 1)', 3),
          claims=dict(ROOMS, answer=('told (subsetOf %s (length out))' % ALL, 'told (choice.pick {t} (Refused 1) (answerOf %s (length out)))' % JOB),
                      out=('outAfter %s out' % ALL, 'choice.pick {t} out (outputOf %s out)' % JOB))),
     dict(fn='cmap_fate', answer='FateAnswer', params=SHARED + [('k', 'num', 'usize', 'k')], sizes=SIZES, core='fate_on_room', core_takes=CORE + ['k'],
-         uses=['Rattle.promised.specs.declared.FateKind.the-variants.{Refused}', 'Rattle.promised.specs.Fates.{fateOf, noFate}',
-               'Rattle.told.specs.Told.{toldFate}', 'Rattle.calls.specs.Calls.{recordFateOf, codesAfter, glyphsAfter}'],
+         uses=['Rattle.cmap_promise.specs.declared.FateKind.the-variants.{Refused}', 'Rattle.cmap_promise.specs.Fates.{fateOf, noFate}',
+               'Rattle.host_told.specs.Told.{toldFate}', 'Rattle.host_calls.specs.Calls.{recordFateOf, codesAfter, glyphsAfter}'],
          refused=('toldFate (noFate (Refused 1))', 5),
          claims=dict(ROOMS, answer=('toldFate (recordFateOf %s k)' % ALL, 'toldFate (choice.pick {t} (noFate (Refused 1)) (fateOf %s k))' % JOB))),
 ]

@@ -4,8 +4,8 @@ use mathlib.Core.Path.{_≡_, refl, sym, ap, _∙_}
 use mathlib.Core.List.{List}
 use native.Mathlib.Omega.{arith}
 use borrow.Author.Tests.{ne-eqb}
-use Rattle.header.specs.Header.{recordCount}
-use Rattle.listing.specs.Job.{Job, job}
+use Rattle.source_header.specs.Header.{recordCount}
+use Rattle.plan_listing.specs.Job.{Job, job}
 use Rattle.plan.specs.declared.Outcome.{Outcome}
 use Rattle.plan.specs.declared.Outcome.the-variants.{Served}
 use Rattle.plan.specs.Outcomes.{Small}
@@ -14,12 +14,12 @@ use Rattle.result.proofs.PlanLaws.{plan-served}
 use Rattle.result.specs.Result.{at}
 use Rattle.result.specs.Refusal.{earlyRefusal}
 use Rattle.result.proofs.RefusalLaws.{refusal-early, refusal-late}
-use Rattle.promised.specs.declared.Fate.{Fate}
-use Rattle.promised.specs.declared.FateKind.the-variants.{Refused}
-use Rattle.promised.specs.Fates.{noFate, fateOf}
-use Rattle.concluding.specs.Concluding.{Planned}
-use Rattle.concluding.proofs.PassingLaws.{header}
-use Rattle.fates.specs.Found.{fateBy, Found}
+use Rattle.cmap_promise.specs.declared.Fate.{Fate}
+use Rattle.cmap_promise.specs.declared.FateKind.the-variants.{Refused}
+use Rattle.cmap_promise.specs.Fates.{noFate, fateOf}
+use Rattle.cmap_concluding.specs.Concluding.{Planned}
+use Rattle.cmap_concluding.proofs.PassingLaws.{header}
+use Rattle.cmap_concluding.specs.Found.{fateBy, Found}
 use Rattle.cmap.proofs.SubsetLaws.{worked-out}
 
 module _ (s cs gs ks ms rs : List ℕ) (os : List Outcome) (p : Planned (job s cs gs ks ms rs) os) where

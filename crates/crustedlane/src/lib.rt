@@ -1,17 +1,17 @@
 // What a host links: the two calls over pair records, and the two print heads. Any sizes and any bytes get an answer.
-use pairs::Pair;
-use told::FateAnswer;
-use told::HeadAnswer;
-use told::SubsetAnswer;
+use host_pairs::Pair;
+use host_told::FateAnswer;
+use host_told::HeadAnswer;
+use host_told::SubsetAnswer;
 ghost use mathlib.Core.Path.{_≡_};
 ghost use Prim.Native.Nat.{_≤_};
 ghost use lib.ListN.{length, take};
-ghost use Rattle.listing.specs.Job.{job};
-ghost use Rattle.promised.specs.Cmap.{answerOf, outputOf};
-ghost use Rattle.promised.specs.Fates.{fateOf};
+ghost use Rattle.plan_listing.specs.Job.{job};
+ghost use Rattle.cmap_promise.specs.Cmap.{answerOf, outputOf};
+ghost use Rattle.cmap_promise.specs.Fates.{fateOf};
 ghost use Rattle.heads.specs.Heads.{oldHead, newHead};
-ghost use Rattle.told.specs.Told.{told, toldFate, toldHead};
-ghost use Rattle.calls.specs.Calls.{subsetOf, recordFateOf, codesAfter, glyphsAfter, outAfter};
+ghost use Rattle.host_told.specs.Told.{told, toldFate, toldHead};
+ghost use Rattle.host_calls.specs.Calls.{subsetOf, recordFateOf, codesAfter, glyphsAfter, outAfter};
 
 // ---- the print heads
 
@@ -19,14 +19,14 @@ ghost use Rattle.calls.specs.Calls.{subsetOf, recordFateOf, codesAfter, glyphsA
 pub extern "C" fn cmap_old_head(table: &[u8], c: u32) -> HeadAnswer
     ensures { λ r. ⌜ r ≡ toldHead (oldHead (now (table .entry)) c) ⌝ }
 {
-    heads_told::old_head(table, c)
+    host_told::old_head(table, c)
 }
 
 #[no_mangle]
 pub extern "C" fn cmap_new_head(table: &[u8], c: u32) -> HeadAnswer
     ensures { λ r. ⌜ r ≡ toldHead (newHead (now (table .entry)) c) ⌝ }
 {
-    heads_told::new_head(table, c)
+    host_told::new_head(table, c)
 }
 
 // ---- the core on the work room that is lent, its answers told in numbers
@@ -47,7 +47,7 @@ fn subset_on_room(
         × (now (codes .exit) ≡ now (codes .entry)) × (now (glyphs .exit) ≡ now (glyphs .entry))
         × (now (out .exit) ≡ outputOf (job (now (source .entry)) (take n (now (codes .entry))) (take n (now (glyphs .entry))) (now (kept .entry)) (now (map .entry)) (now (requested .entry))) (now (out .entry))) ⌝ }
 {
-    telling::tell(cmap::subset(source, &codes[..n], &glyphs[..n], kept, map, requested, out))
+    host_told::tell(cmap::subset(source, &codes[..n], &glyphs[..n], kept, map, requested, out))
 }
 
 fn fate_on_room(
@@ -64,7 +64,7 @@ fn fate_on_room(
     ensures { λ r. ⌜ (r ≡ toldFate (fateOf (job (now (source .entry)) (take n (now (codes .entry))) (take n (now (glyphs .entry))) (now (kept .entry)) (now (map .entry)) (now (requested .entry))) k))
         × (now (codes .exit) ≡ now (codes .entry)) × (now (glyphs .exit) ≡ now (glyphs .entry)) ⌝ }
 {
-    telling::tell_fate(cmap::fate_of(source, &codes[..n], &glyphs[..n], kept, map, requested, k))
+    host_told::tell_fate(cmap::fate_of(source, &codes[..n], &glyphs[..n], kept, map, requested, k))
 }
 
 // ---- the calls, by hand: whoever holds a slice of records is not covered (tools/entry writes the two proofs)
@@ -86,7 +86,7 @@ pub extern "C" fn cmap_subset(
         × (now (out .exit) ≡ outAfter (now (source .entry)) (now (pairs .entry)) (now (codes .entry)) (now (glyphs .entry)) (now (kept .entry)) (now (map .entry)) (now (requested .entry)) (now (out .entry))) ⌝ }
 {
     let n = pairs.len();
-    if pair_sizes::sizes_broken(
+    if host_pairs::sizes_broken(
         source.len(),
         n,
         codes.len(),
@@ -101,7 +101,7 @@ pub extern "C" fn cmap_subset(
             records: 0,
         };
     }
-    pairs::copy_pairs(pairs, codes, glyphs);
+    host_pairs::copy_pairs(pairs, codes, glyphs);
     subset_on_room(source, codes, glyphs, n, kept, map, requested, out)
 }
 
@@ -121,7 +121,7 @@ pub extern "C" fn cmap_fate(
         × (now (glyphs .exit) ≡ glyphsAfter (now (source .entry)) (now (pairs .entry)) (now (codes .entry)) (now (glyphs .entry)) (now (kept .entry)) (now (map .entry)) (now (requested .entry))) ⌝ }
 {
     let n = pairs.len();
-    if pair_sizes::sizes_broken(
+    if host_pairs::sizes_broken(
         source.len(),
         n,
         codes.len(),
@@ -138,6 +138,6 @@ pub extern "C" fn cmap_fate(
             offset: 0,
         };
     }
-    pairs::copy_pairs(pairs, codes, glyphs);
+    host_pairs::copy_pairs(pairs, codes, glyphs);
     fate_on_room(source, codes, glyphs, n, kept, map, requested, k)
 }

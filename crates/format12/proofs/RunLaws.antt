@@ -14,8 +14,8 @@ use Rattle.laws.specs.Lists.{Pair, pairs}
 use Rattle.laws.specs.Pieces.{pieces}
 use Rattle.laws.proofs.ChoiceLaws.{false-true, by-leb}
 use Rattle.laws.proofs.PiecesLaws.{Joined, lone, joined-snoc, pieces-joined, pieces-all}
-use Rattle.runs.specs.Runs.{breaks, Ends}
-use Rattle.runs.proofs.EndLaws.{Next, run-along, run-breaks}
+use Rattle.lists_runs.specs.Runs.{breaks, Ends}
+use Rattle.lists_runs.proofs.EndLaws.{Next, run-along, run-breaks}
 use Rattle.format12.specs.declared.Group.{Group}
 use Rattle.format12.specs.Format12.{consecutive, group, grouped, groups, Columns}
 use Rattle.format12.proofs.GroupsLaws.{last-joined}

@@ -6,7 +6,7 @@ use native.Mathlib.Nat.{zero-add}
 use native.Mathlib.Omega.{arith}
 use lib.ListN.{length}
 use Rattle.laws.specs.Lists.{pairs}
-use Rattle.runs.specs.Runs.{Ends}
+use Rattle.lists_runs.specs.Runs.{Ends}
 use Rattle.number.specs.Row.{encs}
 use Rattle.number.proofs.RowLaws.{length-encs}
 use Rattle.format12.specs.declared.Group.{Group}

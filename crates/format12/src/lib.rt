@@ -24,7 +24,7 @@ fn count_groups(codes: &[u32], glyphs: &[u16]) -> usize
     let mut n: usize = 0;
     let mut i: usize = 0;
     while i < codes.len() {
-        i = runs::run_end(codes, glyphs, i);
+        i = lists_runs::run_end(codes, glyphs, i);
         n += 1;
     }
     n

@@ -8,9 +8,9 @@ use Rattle.laws.specs.Listed.{listedAs, listedGlyph}
 use Rattle.laws.proofs.ListedLaws.{listed-ap}
 use Rattle.laws.proofs.StandsLaws.{Stands}
 use Rattle.source.proofs.KindLaws.{lengthOf}
-use Rattle.lookup.specs.declared.Found.the-variants.{Nothing, Glyph}
-use Rattle.lookup.specs.Lookup as lookup
-use Rattle.lookup.proofs.StandsLaws.{lookup12-stands}
+use Rattle.heads_lookup.specs.declared.Found.the-variants.{Nothing, Glyph}
+use Rattle.heads_lookup.specs.Lookup as lookup
+use Rattle.heads_lookup.proofs.StandsLaws.{lookup12-stands}
 use Rattle.format12.specs.Format12.{format12}
 use Rattle.format12_lookup.specs.Lookup.{Above}
 use Rattle.format12_lookup.proofs.Lookup12Laws.{format12-lookup}

@@ -16,8 +16,8 @@ use Rattle.laws.proofs.TestLaws.{ifLt-suc}
 use Rattle.laws.proofs.FirstLaws.{first-suc, first-ext}
 use borrow.Author.Tests.{le-leb, lt-leb}
 use Rattle.source.specs.Fields.{endCharCode}
-use Rattle.lookup.specs.declared.Found.the-variants.{Nothing, Glyph}
-use Rattle.lookup.specs.Lookup as lookup
+use Rattle.heads_lookup.specs.declared.Found.the-variants.{Nothing, Glyph}
+use Rattle.heads_lookup.specs.Lookup as lookup
 use Rattle.format12.specs.Format12.{group, groups, format12}
 use Rattle.format12.specs.declared.Group.{Group}
 use Rattle.format12_lookup.specs.Lookup.{Above}

@@ -18,8 +18,8 @@ use Rattle.number.specs.Limits.{unicodeMax}
 use Rattle.format12.specs.declared.Group.{Group}
 use Rattle.format12.specs.Format12.{consecutive, group, groupOf, grouped, groups}
 use Rattle.format12.proofs.GroupsLaws.{consecutive-next, joined-level, last-joined}
-use Rattle.lookup.specs.declared.Found.{Found}
-use Rattle.lookup.specs.declared.Found.the-variants.{Nothing, Glyph}
+use Rattle.heads_lookup.specs.declared.Found.{Found}
+use Rattle.heads_lookup.specs.declared.Found.the-variants.{Nothing, Glyph}
 use Rattle.format12_lookup.specs.Lookup.{Above, above-none, above-more}
 
 -- ---- a lookup in a list of groups

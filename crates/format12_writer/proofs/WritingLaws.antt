@@ -6,7 +6,7 @@ use native.Mathlib.Omega.{arith}
 use lib.ListN.{length, getD}
 use lib.Seq.{sets, length-sets}
 use Rattle.laws.specs.Lists.{pairs}
-use Rattle.runs.specs.Runs.{Ends}
+use Rattle.lists_runs.specs.Runs.{Ends}
 use Rattle.laws.proofs.SetsLaws.{sets-append}
 use Rattle.number.specs.Row.{encs}
 use Rattle.number.proofs.RowLaws.{encs-append}

@@ -1,13 +1,24 @@
 // Writes a format 12 subtable: its header, and behind it the groups, one run of the listed pairs each.
 use format12::Group;
 ghost use mathlib.Core.Path.{_≡_};
-ghost use mathlib.Core.List.{[], _∷_};
-ghost use Prim.Native.Nat.{_+_, _*_, _≤_};
+ghost use Prim.Native.Nat.{_+_, _≤_, _*_};
 ghost use lib.ListN.{length};
 ghost use lib.Seq.{sets};
+ghost use Rattle.format12.specs.Format12.{header, groups, fields, format12, Columns, Room};
+ghost use mathlib.Core.List.{[], _∷_};
 ghost use Rattle.laws.specs.Lists.{pairs};
 ghost use Rattle.number.specs.Row.{encs};
-ghost use Rattle.format12.specs.Format12.{groups, fields, format12, Columns, Room};
+
+pub fn write_header(out: &mut [u8], at: usize, language: u32, groups: usize)
+    requires { ⌜ (at + 16 ≤ length (now out)) × (groups ≤ 65535) ⌝ }
+    ensures { λ _. ⌜ now (out .exit) ≡ sets (now (out .entry)) at (header 12 language groups) ⌝ }
+{
+    number_writer::put_u16(out, at, 12);
+    number_writer::put_u16(out, at + 2, 0);
+    number_writer::put_u32(out, at + 4, (16 + 12 * groups) as u32);
+    number_writer::put_u32(out, at + 8, language);
+    number_writer::put_u32(out, at + 12, groups as u32);
+}
 
 fn put_group(out: &mut [u8], at: usize, group: Group)
     requires { ⌜ at + 12 ≤ length (now out) ⌝ }
@@ -29,7 +40,7 @@ fn write_groups(out: &mut [u8], at: usize, codes: &[u32], glyphs: &[u16])
     while i < codes.len() {
         let start = codes[i];
         let glyph = glyphs[i];
-        i = runs::run_end(codes, glyphs, i);
+        i = lists_runs::run_end(codes, glyphs, i);
         let end = codes[i - 1];
         put_group(
             out,
@@ -57,6 +68,6 @@ pub fn write_format12(
     requires { ⌜ Room (pairs (now codes) (now glyphs)) groups at (length (now out)) ⌝ }
     ensures { λ _. ⌜ now (out .exit) ≡ sets (now (out .entry)) at (format12 language (pairs (now (codes .entry)) (now (glyphs .entry)))) ⌝ }
 {
-    format12_header::write_header(out, at, language, groups);
+    write_header(out, at, language, groups);
     write_groups(out, at + 16, codes, glyphs);
 }

@@ -13,15 +13,15 @@ use Rattle.laws.specs.Select.{eqList}
 use Rattle.laws.proofs.ChoiceLaws.{both-left, both-right, by-leb, by-test}
 use Rattle.laws.proofs.EqListLaws.{eq-refl, eq-true}
 use Rattle.laws.proofs.EitherLaws.{both-none}
-use Rattle.marks.specs.Marks.{holds}
+use Rattle.lists_marks.specs.Marks.{holds}
 use Rattle.number.specs.BigEndian.{be, Num}
-use Rattle.uvs.specs.Tables.{counts, countsDefault, countsNonDefault}
-use Rattle.uvs.specs.Checksum.{gathered, checksum}
-use Rattle.uvs.specs.Default.{newDefault}
-use Rattle.uvs.specs.NonDefault.{newNonDefault, badMapping}
-use Rattle.uvs.proofs.TablesLaws.{counts-head, counts-inside}
-use Rattle.default_ranges.specs.Stream.{Lent}
-use Rattle.uvs_mapping.specs.Lent.{Table}
+use Rattle.format14_uvs.specs.Tables.{counts, countsDefault, countsNonDefault}
+use Rattle.format14_uvs.specs.Checksum.{gathered, checksum}
+use Rattle.format14_uvs.specs.Default.{newDefault}
+use Rattle.format14_uvs.specs.NonDefault.{newNonDefault, badMapping}
+use Rattle.format14_uvs.proofs.TablesLaws.{counts-head, counts-inside}
+use Rattle.format14_ranges.specs.Stream.{Lent}
+use Rattle.format14_mapping.specs.Lent.{Table}
 use Rattle.format14.proofs.ShapeLaws.{length-default, length-non-default, tables-apart}
 use Rattle.format14.specs.Selectors.{Given, given, keepsSelector, defaultTable, nonDefaultTable, badRecord}
 use Rattle.format14.specs.ByNumber.{slot, badSlot, tableOffset, sourceTable, Source, Readable, Numbered, Size, Both}

@@ -10,10 +10,10 @@ use Rattle.laws.specs.Choice.{pick, either}
 use Rattle.laws.specs.Lists.{Pair, keep}
 use Rattle.laws.specs.Select.{each, anyOf, select}
 use Rattle.laws.proofs.SelectLaws.{each-on, each-end, each-all}
-use Rattle.marks.specs.Marks.{between, flagged, marked, kept}
-use Rattle.marks.proofs.MarksLaws.{painted-flagged, flagged-ext, flagged-none, kept-sets}
+use Rattle.lists_marks.specs.Marks.{between, flagged, marked, kept}
+use Rattle.lists_marks.proofs.MarksLaws.{painted-flagged, flagged-ext, flagged-none, kept-sets}
 use Rattle.number.specs.BigEndian.{Num, Byte}
-use Rattle.uvs.specs.Default.{range, rangeAt, ranges, covers, coveredBy, coveredPoints}
+use Rattle.format14_uvs.specs.Default.{range, rangeAt, ranges, covers, coveredBy, coveredPoints}
 
 -- one range
 pub mark-is : (xs : List ℕ) (place : ℕ) (ks fs fin : List ℕ) (start additional : ℕ) → Num 3 xs place start → Byte xs (place + 3) additional

@@ -16,14 +16,14 @@ use Rattle.laws.proofs.ChoiceLaws.{by-leb, by-pick}
 use Rattle.laws.proofs.EachLaws.{each-getD}
 use Rattle.laws.proofs.LengthLaws.{length-map, length-select}
 use Rattle.laws.proofs.StandsLaws.{Stands}
-use Rattle.marks.specs.Marks.{between, holds}
+use Rattle.lists_marks.specs.Marks.{between, holds}
 use Rattle.number.specs.BigEndian.{be, enc}
 use Rattle.number.proofs.BigEndianLaws.{be-enc-fits, length-enc}
 use Rattle.number.proofs.StandsLaws.{be-stands}
-use Rattle.uvs.specs.Tables.{table}
-use Rattle.uvs.proofs.ReadLaws.{each-select, stands-front, stands-back, stands-whole, table-back}
-use Rattle.uvs.specs.Default.{range, ranges, rangeBytes, covers, coveredBy, coveredPoints, follow, longest, longRanges, singlePoints, inRanges, newRecords, newDefault}
-use Rattle.default_ranges.proofs.StreamLaws.{range-size, begun, begun-start, begun-full, begun-end, begun-gap, begun-on}
+use Rattle.format14_uvs.specs.Tables.{table}
+use Rattle.format14_uvs.proofs.ReadLaws.{each-select, stands-front, stands-back, stands-whole, table-back}
+use Rattle.format14_uvs.specs.Default.{range, ranges, rangeBytes, covers, coveredBy, coveredPoints, follow, longest, longRanges, singlePoints, inRanges, newRecords, newDefault}
+use Rattle.format14_ranges.proofs.StreamLaws.{range-size, begun, begun-start, begun-full, begun-end, begun-gap, begun-on}
 use Rattle.format14.proofs.NewLaws.{longest-single}
 
 either-assoc : (a b c : Bool) → either (either a b) c ≡ either a (either b c)

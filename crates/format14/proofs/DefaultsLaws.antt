@@ -17,13 +17,13 @@ use Rattle.laws.proofs.EitherLaws.{neither-left}
 use Rattle.laws.proofs.EqListLaws.{eq-refl}
 use Rattle.laws.proofs.LastsLaws.{among-here}
 use Rattle.laws.proofs.StandsLaws.{Stands, stands-in}
-use Rattle.marks.specs.Marks.{holds}
+use Rattle.lists_marks.specs.Marks.{holds}
 use Rattle.number.specs.BigEndian.{be, enc, Bytes}
 use Rattle.number.proofs.BigEndianLaws.{be-lt, be-front, be-back, be-enc-fits, length-enc}
 use Rattle.number.proofs.StandsLaws.{be-stands}
-use Rattle.uvs.specs.Tables.{countsDefault}
-use Rattle.uvs.specs.Default.{coveredBy, newDefault}
-use Rattle.uvs.proofs.ReadLaws.{each-row, each-select}
+use Rattle.format14_uvs.specs.Tables.{countsDefault}
+use Rattle.format14_uvs.specs.Default.{coveredBy, newDefault}
+use Rattle.format14_uvs.proofs.ReadLaws.{each-row, each-select}
 use Rattle.format14.proofs.CoversLaws.{none-covers, stands-covers, bytes-cover}
 use Rattle.format14.specs.Selectors.{Given, selectorRecords, varSelector, defaultOffset, keepsSelector, defaultTable, nonDefaultTable, keptRecords, there, one}
 use Rattle.format14.proofs.ShapeLaws.{default-shape}

@@ -15,16 +15,16 @@ use Rattle.laws.specs.Select.{each, select, anyOf}
 use Rattle.laws.proofs.ChoiceLaws.{by-test}
 use Rattle.laws.proofs.LengthLaws.{length-each, length-select}
 use Rattle.laws.proofs.StandsLaws.{Stands}
-use Rattle.marks.specs.Marks.{holds}
+use Rattle.lists_marks.specs.Marks.{holds}
 use Rattle.number.specs.BigEndian.{be, enc, Bytes}
 use Rattle.number.proofs.BigEndianLaws.{be-lt, be-enc-fits, length-enc}
 use Rattle.number.proofs.StandsLaws.{be-stands}
 use Rattle.number.specs.Limits.{absent}
-use Rattle.uvs.specs.Tables.{table}
-use Rattle.uvs.proofs.ReadLaws.{each-row, each-select, stands-front, stands-back, stands-whole, table-back}
-use Rattle.uvs.specs.NonDefault.{mapping, mappingAt, mappings, keepsMapping, keptMappings, mappingBytes, newNonDefault, missing, badMapping}
+use Rattle.format14_uvs.specs.Tables.{table}
+use Rattle.format14_uvs.proofs.ReadLaws.{each-row, each-select, stands-front, stands-back, stands-whole, table-back}
+use Rattle.format14_uvs.specs.NonDefault.{mapping, mappingAt, mappings, keepsMapping, keptMappings, mappingBytes, newNonDefault, missing, badMapping}
 use Rattle.format14.specs.Gives.{glyphsFor, stayingGlyphs, newGlyph, renumbered, Glyphs}
-use Rattle.uvs_mapping.proofs.MappingLaws.{mapping-size, missing-absent}
+use Rattle.format14_mapping.proofs.MappingLaws.{mapping-size, missing-absent}
 
 -- ---- mappings read back from their bytes
 

@@ -8,15 +8,15 @@ use lib.Seq.{sets}
 use Rattle.laws.specs.Choice.{pick}
 use Rattle.laws.specs.Lists.{Pair}
 use Rattle.laws.specs.Select.{flat}
-use Rattle.marks.specs.Marks.{flagged}
+use Rattle.lists_marks.specs.Marks.{flagged}
 use Rattle.number.specs.BigEndian.{be, put}
-use Rattle.uvs.specs.Checksum.{mixed, checksum}
-use Rattle.uvs.specs.Default.{follow, longest, longRanges, singlePoints, inRanges, coveredBy, coveredPoints, rangeBytes, newRecords, newDefault}
-use Rattle.uvs.proofs.ChecksumLaws.{checksum-table}
-use Rattle.uvs.proofs.TablesLaws.{size-none, size-some, write-none, write-room, write-some}
-use Rattle.default_ranges.specs.Stream.{Lent, Count, records, mostOf}
+use Rattle.format14_uvs.specs.Checksum.{mixed, checksum}
+use Rattle.format14_uvs.specs.Default.{follow, longest, longRanges, singlePoints, inRanges, coveredBy, coveredPoints, rangeBytes, newRecords, newDefault}
+use Rattle.format14_uvs.proofs.ChecksumLaws.{checksum-table}
+use Rattle.format14_uvs.proofs.TablesLaws.{size-none, size-some, write-none, write-room, write-some}
+use Rattle.format14_ranges.specs.Stream.{Lent, Count, records, mostOf}
 use Rattle.format14.proofs.CoverLaws.{points-covered}
-use Rattle.default_ranges.proofs.StreamLaws.{range-size}
+use Rattle.format14_ranges.proofs.StreamLaws.{range-size}
 
 -- ranges of one point each are single points
 pub longest-single : (ps : List ℕ) → longest 0 0 ps ≡ singlePoints ps

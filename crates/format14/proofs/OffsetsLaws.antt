@@ -16,7 +16,7 @@ use Rattle.laws.proofs.SelectLaws.{length-flat}
 use Rattle.laws.proofs.StandsLaws.{Stands, stands-in}
 use Rattle.number.specs.BigEndian.{be}
 use Rattle.number.proofs.StandsLaws.{be-stands}
-use Rattle.uvs.specs.Tables.{counts}
+use Rattle.format14_uvs.specs.Tables.{counts}
 use Rattle.format14.proofs.SlotsLaws.{there-some, there-none}
 use Rattle.format14.specs.Format14.{Row, tables, written, tablesStart, offsetOf, lengthOf, rowBytes, header, format14}
 use Rattle.format14.proofs.WholeLaws.{length-head, row-size, length-format14}

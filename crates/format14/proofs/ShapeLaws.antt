@@ -9,12 +9,12 @@ use Rattle.laws.proofs.LengthLaws.{length-each, length-select}
 use Rattle.laws.proofs.SelectLaws.{length-flat}
 use Rattle.number.specs.BigEndian.{be, enc}
 use Rattle.number.proofs.BigEndianLaws.{length-enc, be-front, be-enc-fits}
-use Rattle.uvs.specs.Tables.{table}
-use Rattle.uvs.specs.Default.{newDefault, newRecords, rangeBytes}
-use Rattle.uvs.specs.NonDefault.{newNonDefault, keptMappings, keepsMapping, mappings, mappingAt, mappingBytes}
+use Rattle.format14_uvs.specs.Tables.{table}
+use Rattle.format14_uvs.specs.Default.{newDefault, newRecords, rangeBytes}
+use Rattle.format14_uvs.specs.NonDefault.{newNonDefault, keptMappings, keepsMapping, mappings, mappingAt, mappingBytes}
 use Rattle.format14.proofs.CoversLaws.{length-records}
-use Rattle.default_ranges.proofs.StreamLaws.{range-size}
-use Rattle.uvs_mapping.proofs.MappingLaws.{mapping-size}
+use Rattle.format14_ranges.proofs.StreamLaws.{range-size}
+use Rattle.format14_mapping.proofs.MappingLaws.{mapping-size}
 
 -- ---- tables of records of one size
 

@@ -10,9 +10,9 @@ use Rattle.laws.specs.Select.{each}
 use Rattle.laws.proofs.ChoiceLaws.{by-pick, by-leb}
 use Rattle.laws.proofs.LastsLaws.{length-concat, length-lasts}
 use Rattle.laws.proofs.LengthLaws.{length-each, length-map, length-select}
-use Rattle.uvs.specs.Tables.{countsDefault, countsNonDefault}
-use Rattle.uvs.specs.Default.{newDefault}
-use Rattle.uvs.specs.NonDefault.{newNonDefault}
+use Rattle.format14_uvs.specs.Tables.{countsDefault, countsNonDefault}
+use Rattle.format14_uvs.specs.Default.{newDefault}
+use Rattle.format14_uvs.specs.NonDefault.{newNonDefault}
 use Rattle.format14.specs.Selectors.{Given, selectorRecords, defaultOffset, nonDefaultOffset, keepsSelector, keptRecords, defaultTable, nonDefaultTable}
 use Rattle.format14.specs.ByNumber.{slot, tableMax}
 use Rattle.format14.proofs.ShapeLaws.{length-default, length-non-default}

@@ -20,13 +20,13 @@ use Rattle.laws.proofs.EqListLaws.{eq-refl}
 use Rattle.laws.proofs.LastsLaws.{among-here, among-there}
 use Rattle.laws.proofs.SelectLaws.{length-flat}
 use Rattle.laws.proofs.StandsLaws.{Stands, stands-append, stands-in}
-use Rattle.marks.specs.Marks.{holds}
+use Rattle.lists_marks.specs.Marks.{holds}
 use Rattle.number.specs.BigEndian.{be, enc, Bytes}
 use Rattle.number.proofs.BigEndianLaws.{be-lt, be-front, be-back, be-enc-fits, length-enc}
 use Rattle.number.proofs.StandsLaws.{be-stands}
-use Rattle.uvs.specs.Tables.{countsNonDefault}
-use Rattle.uvs.specs.NonDefault.{mappings, newNonDefault}
-use Rattle.uvs.proofs.ReadLaws.{each-row, each-select}
+use Rattle.format14_uvs.specs.Tables.{countsNonDefault}
+use Rattle.format14_uvs.specs.NonDefault.{mappings, newNonDefault}
+use Rattle.format14_uvs.proofs.ReadLaws.{each-row, each-select}
 use Rattle.format14.specs.Gives.{glyphsFor, stayingGlyphs, newGlyph, Glyphs}
 use Rattle.format14.proofs.GivesLaws.{none-read, stands-mappings, new-mappings, new-gives, all-stay}
 use Rattle.format14.specs.Selectors.{Given, selectorRecords, varSelector, nonDefaultOffset, keepsSelector, defaultTable, nonDefaultTable, keptRecords, there, one}

@@ -8,10 +8,10 @@ use lib.ListN.{length, getD}
 use Rattle.laws.specs.Choice.{pick, both}
 use Rattle.laws.specs.Lists.{Rising}
 use Rattle.source.specs.Fields.{varSelector}
-use Rattle.marks.specs.Marks.{holds}
+use Rattle.lists_marks.specs.Marks.{holds}
 use Rattle.number.specs.BigEndian.{be}
-use Rattle.uvs.specs.Checksum.{checksum}
-use Rattle.uvs.specs.Tables.{counts}
+use Rattle.format14_uvs.specs.Checksum.{checksum}
+use Rattle.format14_uvs.specs.Tables.{counts}
 use Rattle.format14.specs.Streams.{CodePoints}
 use Rattle.format14.specs.Selectors.{Given, keepsSelector, defaultTable, nonDefaultTable, badKeptRecord}
 

@@ -6,7 +6,7 @@ use lib.ListN.{getD}
 use Rattle.laws.specs.Choice.{either}
 use Rattle.laws.specs.Lists.{Pair}
 use Rattle.laws.specs.Select.{select}
-use Rattle.marks.specs.Marks.{holds}
+use Rattle.lists_marks.specs.Marks.{holds}
 use Rattle.number.specs.Limits.{absent}
 
 abbrev pub glyphsFor : List Pair → ℕ → List ℕ

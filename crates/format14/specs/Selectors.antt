@@ -4,12 +4,12 @@ use mathlib.Core.List.{List, [], _∷_}
 use mathlib.Core.Bool.{Bool, true, false}
 use Rattle.laws.specs.Choice.{pick, both}
 use Rattle.laws.specs.Select.{each, select, anyOf}
-use Rattle.marks.specs.Marks.{holds}
+use Rattle.lists_marks.specs.Marks.{holds}
 use Rattle.number.specs.BigEndian.{be}
 use Rattle.source.specs.Fields.{varSelector as varSelectorAt, defaultUVSOffset, nonDefaultUVSOffset}
-use Rattle.uvs.specs.Tables.{countsDefault, countsNonDefault}
-use Rattle.uvs.specs.Default.{newDefault}
-use Rattle.uvs.specs.NonDefault.{newNonDefault, badMapping}
+use Rattle.format14_uvs.specs.Tables.{countsDefault, countsNonDefault}
+use Rattle.format14_uvs.specs.Default.{newDefault}
+use Rattle.format14_uvs.specs.NonDefault.{newNonDefault, badMapping}
 
 -- what a subtable is worked out from: the source, the subtable's start and length in it, and the lists that are lent
 pub record Given : Type 0 where

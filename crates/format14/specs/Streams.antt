@@ -5,8 +5,8 @@ use mathlib.Core.List.{List}
 use lib.ListN.{getD}
 use Rattle.laws.specs.Select.{flat, eqList}
 use Rattle.number.specs.Limits.{unicodeMax}
-use Rattle.uvs.specs.Default.{rangeBytes}
-use Rattle.default_ranges.specs.Stream.{Beside, records}
+use Rattle.format14_uvs.specs.Default.{rangeBytes}
+use Rattle.format14_ranges.specs.Stream.{Beside, records}
 
 -- no point is above the greatest code point
 pub record CodePoints (ks : List ℕ) : Type 0 where

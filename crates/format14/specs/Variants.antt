@@ -9,9 +9,9 @@ use Rattle.laws.specs.Lists.{Pair}
 use Rattle.laws.specs.Select.{each, select, anyOf, flat}
 use Rattle.number.specs.BigEndian.{be}
 use Rattle.source.specs.Fields.{varSelector, defaultUVSOffset, nonDefaultUVSOffset}
-use Rattle.uvs.specs.Tables.{countsDefault, countsNonDefault}
-use Rattle.uvs.specs.Default.{coveredBy}
-use Rattle.uvs.specs.NonDefault.{mappings}
+use Rattle.format14_uvs.specs.Tables.{countsDefault, countsNonDefault}
+use Rattle.format14_uvs.specs.Default.{coveredBy}
+use Rattle.format14_uvs.specs.NonDefault.{mappings}
 use Rattle.format14.specs.Gives.{glyphsFor}
 
 -- the mappings of record k's non-default table, none if it does not count

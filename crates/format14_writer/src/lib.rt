@@ -40,7 +40,7 @@ fn lay_out(
 {
     let mut lengths = [0usize; 1024];
     let mut sums = [0u64; 1024];
-    let refused = measuring::measure(
+    let refused = format14_places::measure(
         s,
         at,
         len,
@@ -52,7 +52,7 @@ fn lay_out(
         &mut sums,
         m,
     );
-    let tail = placing::place_tables(
+    let tail = format14_places::place_tables(
         s,
         at,
         len,
@@ -106,7 +106,7 @@ pub fn size(
 {
     let n = number::u32_at(s, at + 6) as usize;
     let tables = lay_out(s, at, len, kept, map, requested, flags, others, ends, 2 * n);
-    let count = selector_records::count_records(ends, n);
+    let count = format14_selectors::count_records(ends, n);
     let tail = tables.tail;
     outcome_from(tables.refused, count, 10 + 11 * count + tail)
 }
@@ -137,7 +137,18 @@ fn copy_var_selector_record_uvs_tables(
         k -= 1;
         let far = ends[k];
         if far > tail {
-            uvs_tables::copy_table(out, stop - far, s, at, len, kept, map, requested, flags, k);
+            format14_tables::copy_table(
+                out,
+                stop - far,
+                s,
+                at,
+                len,
+                kept,
+                map,
+                requested,
+                flags,
+                k,
+            );
             tail = far;
         }
     }
@@ -164,9 +175,9 @@ pub fn serialize(
     ensures { λ _. ⌜ now (out .exit) ≡ sets (now (out .entry)) place (format14 (rows (given (now (s .entry)) at len (now (kept .entry)) (now (map .entry)) (now (requested .entry))))) ⌝ }
 {
     let n = number::u32_at(s, at + 6) as usize;
-    let count = selector_records::count_records(ends, n);
-    selector_records::put_header(out, place, total as u32, count as u32);
-    selector_records::copy_records(out, place + 10, s, at, total, ends, n);
+    let count = format14_selectors::count_records(ends, n);
+    format14_selectors::put_header(out, place, total as u32, count as u32);
+    format14_selectors::copy_records(out, place + 10, s, at, total, ends, n);
     copy_var_selector_record_uvs_tables(
         out,
         place + total,

@@ -11,19 +11,19 @@ use Rattle.laws.proofs.ChoiceLaws.{false-true}
 use Rattle.laws.specs.Choice.{pick}
 use lib.ListN.{length, getD, drop, length-append}
 use Rattle.laws.specs.Lists.{Pair, pairs}
-use Rattle.runs.specs.Runs.{Ends}
-use Rattle.ranges.specs.declared.Segment.{Segment}
-use Rattle.ranges.specs.declared.Committed.{Committed}
-use Rattle.ranges.specs.declared.Committed.the-variants.{None, One, Two}
-use Rattle.ranges.specs.declared.RangeState.{RangeState}
-use Rattle.ranges.specs.declared.Absorbed.{Absorbed}
-use Rattle.ranges.specs.declared.Finished.{Finished}
-use Rattle.ranges.specs.Steps.{idle, grown, step, finish, toList, cutFrom, entries}
-use Rattle.ranges.specs.Cutting.{segments, closing}
-use Rattle.ranges.proofs.CuttingLaws.{segments-some, length-array}
-use Rattle.ranges.proofs.WalkLaws.{walk-cuts}
-use Rattle.ranges.proofs.RunLaws.{run-turn}
-use Rattle.ranges.proofs.StepsLaws.{entries-append, sink-step, sink-end}
+use Rattle.lists_runs.specs.Runs.{Ends}
+use Rattle.format4_cutting.specs.declared.Segment.{Segment}
+use Rattle.format4_cutting.specs.declared.Committed.{Committed}
+use Rattle.format4_cutting.specs.declared.Committed.the-variants.{None, One, Two}
+use Rattle.format4_cutting.specs.declared.RangeState.{RangeState}
+use Rattle.format4_cutting.specs.declared.Absorbed.{Absorbed}
+use Rattle.format4_cutting.specs.declared.Finished.{Finished}
+use Rattle.format4_cutting.specs.Steps.{idle, grown, step, finish, toList, cutFrom, entries}
+use Rattle.format4_cutting.specs.Cutting.{segments, closing}
+use Rattle.format4_cutting.proofs.CuttingLaws.{segments-some, length-array}
+use Rattle.format4_cutting.proofs.WalkLaws.{walk-cuts}
+use Rattle.format4_cutting.proofs.RunLaws.{run-turn}
+use Rattle.format4_cutting.proofs.StepsLaws.{entries-append, sink-step, sink-end}
 use Rattle.format4.specs.declared.RangeCounter.{RangeCounter}
 use Rattle.format4.specs.Format4.{format4}
 use Rattle.format4.specs.declared.Size.{Size}

@@ -10,9 +10,9 @@ use Rattle.laws.specs.Lists.{Pair}
 use Rattle.laws.specs.Linked.{Each}
 use Rattle.laws.specs.Pieces.{concat}
 use Rattle.laws.proofs.ChoiceLaws.{by-pick}
-use Rattle.ranges.specs.declared.Segment.{Segment}
-use Rattle.ranges.specs.Cutting.{Cut, cuts, lastCode, segmentOf, segments, closing, entriesOf, points}
-use Rattle.ranges.proofs.CuttingLaws.{linked-length, parts, cuts-pairs, Adjacent, cuts-adjacent, segments-closed}
+use Rattle.format4_cutting.specs.declared.Segment.{Segment}
+use Rattle.format4_cutting.specs.Cutting.{Cut, cuts, lastCode, segmentOf, segments, closing, entriesOf, points}
+use Rattle.format4_cutting.proofs.CuttingLaws.{linked-length, parts, cuts-pairs, Adjacent, cuts-adjacent, segments-closed}
 use Rattle.format4.specs.Walk.{Fed}
 
 entries-points : (x : Segment) → entriesOf x ≤ points x

@@ -9,9 +9,9 @@ use lib.ListN.{length, take, drop, length-append, length-map}
 use Rattle.laws.specs.Choice.{pick}
 use Rattle.laws.specs.Lists.{Pair}
 use Rattle.number.proofs.RowLaws.{length-encs}
-use Rattle.ranges.specs.declared.Segment.{Segment}
-use Rattle.ranges.specs.Cutting.{segments, glyphArray, entriesOf, points}
-use Rattle.ranges.specs.Steps.{arrayFrom}
+use Rattle.format4_cutting.specs.declared.Segment.{Segment}
+use Rattle.format4_cutting.specs.Cutting.{segments, glyphArray, entriesOf, points}
+use Rattle.format4_cutting.specs.Steps.{arrayFrom}
 use Rattle.format4.specs.Format4.{offsetsFrom, lengthWith, header, endOf, startOf, deltaOf, numbers, format4}
 
 pub length-offsets : (before : ℕ) (ss : List Segment) → length (offsetsFrom before ss) ≡ length ss

@@ -7,8 +7,8 @@ use Rattle.laws.specs.Choice.{pick}
 use Rattle.laws.specs.Lists.{Pair}
 use Rattle.laws.specs.Search.{first}
 use Rattle.number.specs.Row.{encs}
-use Rattle.ranges.specs.declared.Segment.{Segment}
-use Rattle.ranges.specs.Cutting.{segments, glyphArray, entriesOf}
+use Rattle.format4_cutting.specs.declared.Segment.{Segment}
+use Rattle.format4_cutting.specs.Cutting.{segments, glyphArray, entriesOf}
 
 -- the range offsets, where `before` entries of the array stand before the first of these segments: how many bytes it is from the offset
 -- itself to the segment's first entry, over the offsets that follow and those entries; 0 for a segment with a delta

@@ -7,7 +7,7 @@ use lib.ListN.{length, getD}
 use Rattle.laws.specs.Choice.{pick}
 use Rattle.laws.specs.Lists.{Pair}
 use Rattle.number.specs.Limits.{pairsMax, format4LengthMax}
-use Rattle.ranges.specs.Cutting.{segments, glyphArray}
+use Rattle.format4_cutting.specs.Cutting.{segments, glyphArray}
 use Rattle.format4.specs.declared.RangeCounter.{RangeCounter}
 use Rattle.format4.specs.declared.Size.{Size}
 use Rattle.format4.specs.declared.Size.the-variants.{Empty, TooLong, Fits}

@@ -4,9 +4,9 @@ use mathlib.Core.Path.{_≡_}
 use mathlib.Core.List.{List, [], _∷_}
 use lib.ListN.{length}
 use Rattle.laws.specs.Lists.{Pair}
-use Rattle.ranges.specs.declared.Segment.{Segment}
-use Rattle.ranges.specs.Cutting.{points, entriesOf}
-use Rattle.ranges.specs.Steps.{entries}
+use Rattle.format4_cutting.specs.declared.Segment.{Segment}
+use Rattle.format4_cutting.specs.Cutting.{points, entriesOf}
+use Rattle.format4_cutting.specs.Steps.{entries}
 use Rattle.format4.specs.declared.RangeCounter.{RangeCounter}
 use Rattle.format4.specs.Size.{counter, countOf}
 

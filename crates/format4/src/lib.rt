@@ -1,11 +1,11 @@
 // A format 4 subtable as it is defined, and a counter of its segments and glyphs.
-use ranges::Committed;
-use ranges::Segment;
+use format4_cutting::Committed;
+use format4_cutting::Segment;
 ghost use mathlib.Core.Path.{_≡_};
 ghost use mathlib.Core.List.{_∷_, []};
 ghost use Prim.Native.Nat.{_≤_};
-ghost use Rattle.ranges.specs.Steps.{toList};
-ghost use Rattle.ranges.specs.Cutting.{closing, entriesOf, points};
+ghost use Rattle.format4_cutting.specs.Steps.{toList};
+ghost use Rattle.format4_cutting.specs.Cutting.{closing, entriesOf, points};
 ghost use Rattle.format4.specs.Size.{counter, lengthOf};
 ghost use Rattle.format4.specs.Walk.{Below, Adds};
 

@@ -14,13 +14,13 @@ use Rattle.laws.proofs.EachLaws.{each-at, each-of, each-map}
 use Rattle.number.specs.BigEndian.{be}
 use Rattle.number.specs.Row.{encs}
 use Rattle.number.proofs.RowLaws.{be-encs-fits}
-use Rattle.ranges.specs.declared.Segment.{Segment}
-use Rattle.ranges.specs.Steps.{entries}
-use Rattle.ranges.specs.Cutting.{segments, glyphArray, entriesOf}
+use Rattle.format4_cutting.specs.declared.Segment.{Segment}
+use Rattle.format4_cutting.specs.Steps.{entries}
+use Rattle.format4_cutting.specs.Cutting.{segments, glyphArray, entriesOf}
 use Rattle.source.specs.Fields.{endCode, startCode, idDelta, idRangeOffset, glyphIdArray}
 use Rattle.format4.specs.Format4.{offsetsFrom, header, endOf, startOf, deltaOf, numbers, format4}
 use Rattle.format4.proofs.Format4Laws.{length-offsets}
-use Rattle.cut_lookup.proofs.FitsLaws.{SegmentFits, Low}
+use Rattle.format4_lookup.proofs.FitsLaws.{SegmentFits, Low}
 
 -- ---- the subtable's numbers are those of the cutting
 

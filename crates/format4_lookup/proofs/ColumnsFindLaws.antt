@@ -13,16 +13,16 @@ use Rattle.laws.specs.Search.{first}
 use Rattle.laws.specs.Linked.{Each}
 use Rattle.laws.proofs.ChoiceLaws.{by-pick, by-leb, if-lt, else-lt, if-eq, else-eq}
 use Rattle.laws.proofs.EachLaws.{each-at}
-use Rattle.ranges.specs.declared.Segment.{Segment}
-use Rattle.ranges.specs.Steps.{entries}
-use Rattle.ranges.specs.Cutting.{entriesOf}
+use Rattle.format4_cutting.specs.declared.Segment.{Segment}
+use Rattle.format4_cutting.specs.Steps.{entries}
+use Rattle.format4_cutting.specs.Cutting.{entriesOf}
 use Rattle.source.specs.Fields.{endCode, startCode, idDelta, idRangeOffset, glyphIdArray, arrayEntries}
-use Rattle.lookup.specs.declared.Found.{Found}
-use Rattle.lookup.specs.declared.Found.the-variants.{Nothing, Glyph}
-use Rattle.lookup.specs.Lookup.{reaches, inArray, inSegment}
+use Rattle.heads_lookup.specs.declared.Found.{Found}
+use Rattle.heads_lookup.specs.declared.Found.the-variants.{Nothing, Glyph}
+use Rattle.heads_lookup.specs.Lookup.{reaches, inArray, inSegment}
 use Rattle.format4.specs.Format4.{offsetsFrom}
-use Rattle.cut_lookup.specs.Lookup.{valueIn, lookupIn}
-use Rattle.cut_lookup.proofs.FitsLaws.{Low}
+use Rattle.format4_lookup.specs.CutLookup.{valueIn, lookupIn}
+use Rattle.format4_lookup.proofs.FitsLaws.{Low}
 use Rattle.format4_lookup.proofs.ColumnsAtLaws.{Held}
 
 entry-is : (v : ℕ) → v < 65536 → Glyph v ≡ ifEq v 0 (Glyph 0) (Glyph ((v + 0) % 65536))

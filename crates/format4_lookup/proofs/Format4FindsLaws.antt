@@ -15,17 +15,17 @@ use Rattle.laws.proofs.ChoiceLaws.{by-leb, if-lt, else-lt}
 use Rattle.laws.proofs.EachLaws.{each-of}
 use Rattle.laws.proofs.ListedLaws.{listed-ap, listed-none, listed-nth, listed-absent}
 use Rattle.laws.proofs.StandsLaws.{Stands, stands-append, stands-sets}
-use Rattle.ranges.specs.Cutting.{segments, glyphArray}
-use Rattle.ranges.proofs.CuttingLaws.{length-array}
+use Rattle.format4_cutting.specs.Cutting.{segments, glyphArray}
+use Rattle.format4_cutting.proofs.CuttingLaws.{length-array}
 use Rattle.source.proofs.KindLaws.{lengthOf}
 use Rattle.source.specs.Fields.{arrayEntries, glyphIdArray}
-use Rattle.lookup.specs.declared.Found.the-variants.{Nothing, Glyph}
-use Rattle.lookup.specs.Lookup.{find4, lookup4, glyphOf}
-use Rattle.lookup.proofs.StandsLaws.{lookup4-stands}
+use Rattle.heads_lookup.specs.declared.Found.the-variants.{Nothing, Glyph}
+use Rattle.heads_lookup.specs.Lookup.{find4, lookup4, glyphOf}
+use Rattle.heads_lookup.proofs.StandsLaws.{lookup4-stands}
 use Rattle.format4.specs.Format4.{format4}
-use Rattle.cut_lookup.specs.Lookup.{unlisted, Fits, Listed}
-use Rattle.cut_lookup.proofs.FitsLaws.{segments-fit, array-fits}
-use Rattle.cut_lookup.proofs.LookupLaws.{segments-find}
+use Rattle.format4_lookup.specs.CutLookup.{unlisted, Fits, Listed}
+use Rattle.format4_lookup.proofs.FitsLaws.{segments-fit, array-fits}
+use Rattle.format4_lookup.proofs.LookupLaws.{segments-find}
 use Rattle.format4_lookup.specs.Lookup.{Written, foundIn}
 use Rattle.format4_lookup.proofs.ColumnsAtLaws.{Held, format4-numbers, entries-at, columns-held}
 use Rattle.format4_lookup.proofs.ColumnsFindLaws.{columns-find}

@@ -8,8 +8,8 @@ use lib.Seq.{sets}
 use Rattle.laws.specs.Lists.{Pair}
 use Rattle.laws.proofs.StandsLaws.{Stands, stands-append, stands-sets}
 use Rattle.number.specs.BigEndian.{be}
-use Rattle.ranges.specs.Cutting.{segments, glyphArray}
-use Rattle.ranges.proofs.CuttingLaws.{segments-some}
+use Rattle.format4_cutting.specs.Cutting.{segments, glyphArray}
+use Rattle.format4_cutting.proofs.CuttingLaws.{segments-some}
 use Rattle.source.specs.declared.Kind.the-variants.{Format4}
 use Rattle.source.specs.Kind as source
 use Rattle.source.proofs.KindLaws.{gives4, Readable4, lengthOf}

@@ -1,3 +1,5 @@
+pub mod FitsLaws
+pub mod LookupLaws
 pub mod ColumnsAtLaws
 pub mod Format4KindLaws
 pub mod ColumnsFindLaws

@@ -7,10 +7,10 @@ use native.Mathlib.Omega.{arith}
 use borrow.Author.Tests.{le-leb, lt-leb, eq-eqb, ne-eqb}
 use lib.ListN.{length, length-append, length-map}
 use Rattle.laws.specs.Lists.{Pair}
-use Rattle.ranges.specs.Steps.{begun, commit, step, finish, toList, cutFrom, entries}
-use Rattle.ranges.specs.Cutting.{segments, pairDelta, closing, entriesOf}
-use Rattle.ranges.proofs.CuttingLaws.{length-array}
-use Rattle.ranges.proofs.WalkLaws.{walk-cuts}
+use Rattle.format4_cutting.specs.Steps.{begun, commit, step, finish, toList, cutFrom, entries}
+use Rattle.format4_cutting.specs.Cutting.{segments, pairDelta, closing, entriesOf}
+use Rattle.format4_cutting.proofs.CuttingLaws.{length-array}
+use Rattle.format4_cutting.proofs.WalkLaws.{walk-cuts}
 use Rattle.format4.specs.Format4.{format4}
 use Rattle.format4.specs.declared.Size.the-variants.{TooLong, Fits}
 use Rattle.format4.specs.Size.{sizeOf, countOf, lengthOf}

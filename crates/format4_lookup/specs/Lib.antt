@@ -1,2 +1,3 @@
+pub mod CutLookup
 pub mod Lookup
 pub mod Lone

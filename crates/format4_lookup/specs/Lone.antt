@@ -3,8 +3,8 @@ use Prim.Native.Nat.{ℕ, zero, suc, _+_, _*_, _<_}
 use mathlib.Core.Path.{_≡_}
 use mathlib.Core.List.{List, [], _∷_}
 use Rattle.laws.specs.Lists.{Pair}
-use Rattle.ranges.specs.declared.Segment.{Segment}
-use Rattle.ranges.specs.Cutting.{pairDelta, seg}
+use Rattle.format4_cutting.specs.declared.Segment.{Segment}
+use Rattle.format4_cutting.specs.Cutting.{pairDelta, seg}
 
 -- below 0xFFFF, with a delta
 pub record Point (p : Pair) : Type 0 where

@@ -4,10 +4,10 @@ use mathlib.Core.List.{List}
 use lib.ListN.{length}
 use Rattle.laws.specs.Lists.{Pair}
 use Rattle.laws.specs.Listed.{listedAs}
-use Rattle.lookup.specs.declared.Found.{Found}
-use Rattle.lookup.specs.declared.Found.the-variants.{Nothing, Glyph}
+use Rattle.heads_lookup.specs.declared.Found.{Found}
+use Rattle.heads_lookup.specs.declared.Found.the-variants.{Nothing, Glyph}
 use Rattle.format4.specs.Format4.{format4}
-use Rattle.cut_lookup.specs.Lookup.{unlisted}
+use Rattle.format4_lookup.specs.CutLookup.{unlisted}
 
 -- its length and its language fit their fields
 pub record Written (language : ℕ) (ps : List Pair) : Type 0 where

@@ -1,7 +1,7 @@
 // How many segments and glyphs a format 4 subtable has, and whether its length fits.
 use format4::RangeCounter;
 use format4::Size;
-use ranges::RangeState;
+use format4_cutting::RangeState;
 ghost use mathlib.Core.Path.{_≡_};
 ghost use Rattle.laws.specs.Lists.{pairs};
 ghost use Rattle.format4.specs.Size.{Columns, sizeOf};
@@ -21,7 +21,7 @@ fn find_segcount(codes: &[u32], glyphs: &[u16]) -> RangeCounter
         let begun = a.state;
         let out = a.out;
         n = n.absorb(out);
-        i = runs::run_end(codes, glyphs, i);
+        i = lists_runs::run_end(codes, glyphs, i);
         state = begun.grow(codes[i - 1] as u16, glyphs[i - 1]);
     }
     let f = state.finish();

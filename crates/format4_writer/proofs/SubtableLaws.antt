@@ -7,17 +7,17 @@ use lib.ListN.{length}
 use lib.Seq.{sets}
 use Rattle.laws.specs.Lists.{pairs}
 use Rattle.laws.proofs.PairsLaws.{seconds-pairs, length-even}
-use Rattle.ranges.specs.Steps.{entries, arrayFrom}
+use Rattle.format4_cutting.specs.Steps.{entries, arrayFrom}
 use Rattle.format4.specs.declared.RangeCounter.{RangeCounter}
-use Rattle.ranges.specs.Cutting.{segments, glyphArray}
-use Rattle.ranges.proofs.CuttingLaws.{array-from, length-array}
+use Rattle.format4_cutting.specs.Cutting.{segments, glyphArray}
+use Rattle.format4_cutting.proofs.CuttingLaws.{array-from, length-array}
 use Rattle.format4.specs.Format4.{format4}
 use Rattle.format4.specs.Walk.{Fed}
 use Rattle.format4.specs.Size.{Columns, lengthOf}
 use Rattle.format4.proofs.CutLaws.{segments-fed}
 use Rattle.format4.proofs.CountLaws.{Told}
-use Rattle.range_writer.specs.Places.{Room, Apart, columnsAt, placesAt, headed}
-use Rattle.segment_writer.proofs.PlacesLaws.{apart-at, whole-subtable}
+use Rattle.format4_columns.specs.Places.{Room, Apart, columnsAt, placesAt, headed}
+use Rattle.format4_columns.proofs.PlacesLaws.{apart-at, whole-subtable}
 
 module _ (cs gs : List ℕ) (n : RangeCounter) (k : Columns cs gs) (t : Told (pairs cs gs) n) (at : ℕ) where
   pub told-apart : Apart (placesAt at (n .segments)) (length (segments (pairs cs gs))) 0

@@ -1,7 +1,7 @@
 // Writes a format 4 subtable: its header, its columns and its glyph array, in one walk over the pairs.
 use format4::RangeCounter;
-use range_writer::RangeWriter;
-use ranges::RangeState;
+use format4_columns::RangeWriter;
+use format4_cutting::RangeState;
 ghost use mathlib.Core.Path.{_≡_};
 ghost use mathlib.Core.List.{_∷_, []};
 ghost use Prim.Native.Nat.{_+_, _-_, _*_, _^_, _≤_, _<_};
@@ -10,10 +10,10 @@ ghost use lib.Seq.{sets};
 ghost use Rattle.laws.specs.Lists.{pairs};
 ghost use Rattle.number.specs.Row.{encs};
 ghost use Rattle.format4.specs.declared.Size.the-variants.{Fits};
-ghost use Rattle.ranges.specs.Cutting.{segments};
+ghost use Rattle.format4_cutting.specs.Cutting.{segments};
 ghost use Rattle.format4.specs.Format4.{floorLog2, format4};
 ghost use Rattle.format4.specs.Size.{Columns, lengthOf, sizeOf};
-ghost use Rattle.range_writer.specs.Places.{Room, columnsAt, Apart, headed, Space};
+ghost use Rattle.format4_columns.specs.Places.{Room, columnsAt, Apart, headed, Space};
 ghost use Rattle.format4_writer.specs.Log.{Logs};
 
 struct Log {
@@ -88,14 +88,14 @@ fn write_columns(out: &mut [u8], codes: &[u32], glyphs: &[u16], at: RangeWriter)
         let a = state.absorb(codes[i] as u16, glyphs[i]);
         let begun = a.state;
         let c = a.out;
-        w = segment_writer::absorb(w, out, glyphs, c);
-        i = runs::run_end(codes, glyphs, i);
+        w = format4_columns::absorb(w, out, glyphs, c);
+        i = lists_runs::run_end(codes, glyphs, i);
         state = begun.grow(codes[i - 1] as u16, glyphs[i - 1]);
     }
     let f = state.finish();
     let c = f.out;
-    let v = segment_writer::absorb(w, out, glyphs, c);
-    segment_writer::close(v, out, glyphs, f.close);
+    let v = format4_columns::absorb(w, out, glyphs, c);
+    format4_columns::close(v, out, glyphs, f.close);
 }
 
 // The whole subtable, from at. n is what format4_size gave.

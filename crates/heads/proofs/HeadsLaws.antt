@@ -10,12 +10,12 @@ use lib.Dec.{ltb}
 use Rattle.laws.specs.Choice.{ifLt}
 use Rattle.laws.proofs.ChoiceLaws.{by-pick, if-lt, else-lt}
 use Rattle.laws.proofs.FirstLaws.{first-is, first-past}
-use Rattle.header.specs.declared.Header.{Header}
-use Rattle.header.specs.declared.Header.the-variants.{Records, Refused as Rejected}
-use Rattle.header.specs.Header.{refused5, recordCount, headerOf, offsetOf}
-use Rattle.header.proofs.HeaderLaws.{Accepted, not-refused, tells-records, tells-refused}
-use Rattle.records.specs.Records.{leadsToFormat}
-use Rattle.lookup.specs.Lookup.{lookup4, lookup12, glyphOf}
+use Rattle.source_header.specs.declared.Header.{Header}
+use Rattle.source_header.specs.declared.Header.the-variants.{Records, Refused as Rejected}
+use Rattle.source_header.specs.Header.{refused5, recordCount, headerOf, offsetOf}
+use Rattle.source_header.proofs.HeaderLaws.{Accepted, not-refused, tells-records, tells-refused}
+use Rattle.source_records.specs.Records.{leadsToFormat}
+use Rattle.heads_lookup.specs.Lookup.{lookup4, lookup12, glyphOf}
 use Rattle.heads.specs.declared.Answer.{Answer}
 use Rattle.heads.specs.declared.Answer.the-variants.{Glyph, Refused}
 use Rattle.heads.specs.Heads.{oldOf, newOf, byRecords, oldHead, newHead, numberOf}

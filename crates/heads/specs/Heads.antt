@@ -3,9 +3,9 @@ use Prim.Native.Nat.{ℕ}
 use mathlib.Core.List.{List}
 use Rattle.laws.specs.Choice.{pick, ifLt}
 use Rattle.laws.specs.Search.{first}
-use Rattle.header.specs.Header.{refused5, recordCount, offsetOf}
-use Rattle.records.specs.Records.{leadsToFormat}
-use Rattle.lookup.specs.Lookup.{lookup4, lookup12, glyphOf}
+use Rattle.source_header.specs.Header.{refused5, recordCount, offsetOf}
+use Rattle.source_records.specs.Records.{leadsToFormat}
+use Rattle.heads_lookup.specs.Lookup.{lookup4, lookup12, glyphOf}
 use Rattle.heads.specs.declared.Answer.{Answer}
 use Rattle.heads.specs.declared.Answer.the-variants.{Glyph, Refused}
 

@@ -5,12 +5,12 @@ use mathlib.Core.List.{List}
 use native.Mathlib.Omega.{arith}
 use lib.ListN.{length, take, drop}
 use Rattle.laws.proofs.TakeLaws.{take-counts}
-use Rattle.listing.specs.Job.{Job, job}
+use Rattle.plan_listing.specs.Job.{Job, job}
 use Rattle.job_input.specs.declared.Places.{Places}
 use Rattle.job_input.specs.Job.{jobAt}
 use Rattle.job_lists.specs.Lent.{AtFront, Lent}
-use Rattle.promised.specs.declared.Answer.{Answer}
-use Rattle.promised.specs.Cmap.{answerOf, outputOf}
+use Rattle.cmap_promise.specs.declared.Answer.{Answer}
+use Rattle.cmap_promise.specs.Cmap.{answerOf, outputOf}
 
 front-length : (n : ℕ) (buffer list : List ℕ) → AtFront n buffer list → n ≡ length (take n buffer)
 front-length n buffer list f = take-counts n buffer (f .room)

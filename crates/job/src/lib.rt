@@ -1,4 +1,5 @@
 // A job's bytes answered.
+use cmap_promise::Answer;
 use job_input::KEPT_MAX;
 use job_input::Located;
 use job_input::MAP_MAX;
@@ -6,14 +7,13 @@ use job_input::PAIRS_MAX;
 use job_input::Places;
 use job_input::REQUESTED_MAX;
 use job_output::Reply;
-use promised::Answer;
 ghost use mathlib.Core.Path.{_≡_};
 ghost use lib.ListN.{length};
 ghost use Rattle.job_input.specs.Job.{parse, jobAt};
 ghost use Rattle.job_lists.specs.Lent.{Lent};
 ghost use Rattle.job_output.specs.Output.{written, Parts};
-ghost use Rattle.promised.specs.Cmap.{answerOf, outputOf};
-ghost use Rattle.replies.specs.Answered.{room, answered, replyTo, leftBy};
+ghost use Rattle.cmap_promise.specs.Cmap.{answerOf, outputOf};
+ghost use Rattle.job_output.specs.Answered.{room, answered, replyTo, leftBy};
 
 // One byte more than the longest job: what is longer is damaged, whatever follows (`enough-read`).
 pub const INPUT_ROOM: usize = 81951;
@@ -95,7 +95,7 @@ pub fn answer(bytes: &[u8], out: &mut [u8; 32768]) -> Reply
         &mut requested,
     );
     let Located::At(places) = located else {
-        return replies::damaged_reply();
+        return job_output::damaged_reply();
     };
-    replies::reply_of(subset_from(bytes, places, &codes, &glyphs, &kept, &map, &requested, out))
+    job_output::reply_of(subset_from(bytes, places, &codes, &glyphs, &kept, &map, &requested, out))
 }

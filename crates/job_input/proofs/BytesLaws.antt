@@ -18,7 +18,7 @@ use Rattle.job_input.specs.declared.Field.{Field}
 use Rattle.job_input.specs.declared.Found.the-variants.{Whole}
 use Rattle.job_input.specs.Column.{column}
 use Rattle.job_input.specs.declared.Places.{Places}
-use Rattle.listing.specs.Job.{Job}
+use Rattle.plan_listing.specs.Job.{Job}
 use Rattle.job_input.specs.Job.{size, within, fieldAt, jobAt, parsedAt, parse, read}
 use Rattle.job_input.specs.Bytes.{framed, pairBytes, jobBytes, Fit, Sized}
 use Rattle.job_input.proofs.JobLaws.{Five, whole, five-located}

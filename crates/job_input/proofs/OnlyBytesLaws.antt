@@ -14,7 +14,7 @@ use Rattle.laws.proofs.TakeLaws.{take-counts}
 use Rattle.number.specs.BigEndian.{enc, Bytes}
 use Rattle.number.specs.Row.{encs}
 use Rattle.number.proofs.BigEndianLaws.{be-lt, enc-be}
-use Rattle.listing.specs.Job.{Job}
+use Rattle.plan_listing.specs.Job.{Job}
 use Rattle.job_input.specs.declared.Field.{Field}
 use Rattle.job_input.specs.declared.Found.the-variants.{Whole}
 use Rattle.job_input.specs.declared.Places.{Places}

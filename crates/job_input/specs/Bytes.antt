@@ -6,7 +6,7 @@ use lib.ListN.{length}
 use Rattle.laws.specs.Linked.{Each}
 use Rattle.number.specs.BigEndian.{enc}
 use Rattle.number.specs.Row.{encs}
-use Rattle.listing.specs.Job.{Job}
+use Rattle.plan_listing.specs.Job.{Job}
 
 -- a mark, the payload's length, the payload
 abbrev pub framed : ℕ → List ℕ → List ℕ

@@ -1,7 +1,7 @@
 -- Jobs and what they are taken apart into: a small one, and the same with one thing wrong.
 use Prim.Native.Nat.{ℕ}
 use mathlib.Core.List.{List, [], _∷_, _++_}
-use Rattle.listing.specs.Job.{job}
+use Rattle.plan_listing.specs.Job.{job}
 use Rattle.job_input.specs.Job.{Parsed, read, damaged}
 
 abbrev tb : List ℕ

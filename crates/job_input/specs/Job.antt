@@ -6,7 +6,7 @@ use lib.ListN.{length, take, drop}
 use lib.Dec.{leb, eqb}
 use Rattle.laws.specs.Choice.{pick, both, ifEq}
 use Rattle.number.specs.BigEndian.{be}
-use Rattle.listing.specs.Job.{Job, job}
+use Rattle.plan_listing.specs.Job.{Job, job}
 use Rattle.job_input.specs.Column.{column}
 use Rattle.job_input.specs.declared.Field.{Field}
 use Rattle.job_input.specs.declared.Found.{Found}

@@ -6,7 +6,7 @@ use native.Mathlib.Omega.{arith}
 use lib.ListN.{length}
 use lib.Seq.{sets, length-sets}
 use Rattle.laws.proofs.SetsLaws.{take-sets}
-use Rattle.listing.specs.Job.{Job}
+use Rattle.plan_listing.specs.Job.{Job}
 use Rattle.job_input.specs.declared.Places.{Places}
 use Rattle.job_input.specs.declared.Located.the-variants.{At}
 use Rattle.job_input.specs.Column.{column}

@@ -1,8 +1,11 @@
-// What the program writes: a few bytes of its own, then bytes of the work buffer.
+// What the program writes: a few bytes of its own, then bytes of the work buffer; and which reply an answer or damaged bytes get.
+use cmap_promise::Answer;
 ghost use mathlib.Core.Path.{_≡_};
 ghost use mathlib.Core.List.{[], _∷_, _++_};
 ghost use Rattle.number.specs.BigEndian.{enc};
 ghost use Rattle.job_output.specs.Output.{acceptance, refusal};
+ghost use Rattle.job_input.specs.Job.{damaged};
+ghost use Rattle.job_output.specs.Answered.{replyOf, replyTo};
 
 // The first `headlength` bytes of head, then the first `length` bytes of the work buffer.
 pub struct Reply {
@@ -46,4 +49,21 @@ pub fn refuse(number: u8) -> Reply
         headlength: 7,
         length: 0,
     }
+}
+
+// 10 is told as the number alone.
+pub fn reply_of(answer: Answer) -> Reply
+    ensures { λ r. ⌜ r ≡ replyOf answer ⌝ }
+{
+    match answer {
+        Answer::Written { bytes, records: _ } => accept(bytes),
+        Answer::Refused(number) => refuse(number),
+        Answer::NoRoom(_) => refuse(10),
+    }
+}
+
+pub fn damaged_reply() -> Reply
+    ensures { λ r. ⌜ r ≡ replyTo damaged ⌝ }
+{
+    refuse(12)
 }

@@ -14,10 +14,10 @@ use Rattle.number.proofs.BigEndianLaws.{be-lt}
 use Rattle.source.specs.declared.Kind.{Kind}
 use Rattle.source.specs.declared.Kind.the-variants.{Format4, Format12, Format14, Unreadable}
 use Rattle.source.specs.Kind.{formatOf}
-use Rattle.header.specs.Header.{offsetOf}
-use Rattle.records.specs.Records.{leadsTo}
-use Rattle.mapped4.specs.Mapped4.{maps4, lastSays, segment4}
-use Rattle.listing.specs.Listing.{mapsAs, maps, listed, codesOf}
+use Rattle.source_header.specs.Header.{offsetOf}
+use Rattle.source_records.specs.Records.{leadsTo}
+use Rattle.format4_mapped.specs.Mapped4.{maps4, lastSays, segment4}
+use Rattle.plan_listing.specs.Listing.{mapsAs, maps, listed, codesOf}
 use lib.Dec.{leb}
 use borrow.Author.Tests.{leb-true}
 use Rattle.plan.specs.Making.{Leads}

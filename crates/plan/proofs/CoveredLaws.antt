@@ -15,10 +15,10 @@ use Rattle.laws.proofs.AnyLaws.{some-ext, anyOf-some}
 use Rattle.laws.proofs.ChoiceLaws.{by-pick, by-leb, false-true}
 use Rattle.laws.proofs.RisingLaws.{rising-tail}
 use Rattle.laws.proofs.SetsLaws.{getD-sets-in}
-use Rattle.marks.specs.Marks.{below, flagged, flagOf, Bound}
-use Rattle.marks.proofs.MarksLaws.{length-flagged}
-use Rattle.marks.proofs.BelowLaws.{below-tail}
-use Rattle.listing.specs.Listing.{maps, Beside}
+use Rattle.lists_marks.specs.Marks.{below, flagged, flagOf, Bound}
+use Rattle.lists_marks.proofs.MarksLaws.{length-flagged}
+use Rattle.lists_marks.proofs.BelowLaws.{below-tail}
+use Rattle.plan_listing.specs.Listing.{maps, Beside}
 use Rattle.plan.specs.Covered.{reachesAbove, mapAlike, siblingCovers, isSet, someSet, isOther, flagsDiffer, Rooms}
 use Rattle.plan.specs.Sibling.{firstSibling}
 use borrow.Author.Tests.{lt-ltb, le-ltb, le-leb, lt-leb, eq-eqb, ne-eqb}

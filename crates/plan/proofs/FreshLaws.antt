@@ -6,12 +6,12 @@ use native.Mathlib.Omega.{arith}
 use lib.ListN.{length}
 use Rattle.source.specs.declared.Kind.{Kind}
 use Rattle.source.specs.declared.Kind.the-variants.{Format4, Format12, Format14, Unreadable}
-use Rattle.header.specs.Header.{offsetOf}
+use Rattle.source_header.specs.Header.{offsetOf}
 use Rattle.source.specs.Kind.{formatOf}
 use Rattle.source.proofs.KindLaws.{tells14}
-use Rattle.records.specs.Records.{leadsTo}
-use Rattle.listing.specs.Job.{Job, job}
-use Rattle.listing.specs.Listing.{listed}
+use Rattle.source_records.specs.Records.{leadsTo}
+use Rattle.plan_listing.specs.Job.{Job, job}
+use Rattle.plan_listing.specs.Listing.{listed}
 use Rattle.format4.specs.Size.{sizeOf as sizeOf4}
 use Rattle.format12.specs.Format12.{sizeOf as sizeOf12}
 use Rattle.plan.specs.Making.{Leads}

@@ -7,11 +7,11 @@ use Rattle.laws.specs.Lists.{Pair, pairs}
 use Rattle.laws.specs.Select.{select}
 use Rattle.source.specs.declared.Kind.{Kind}
 use Rattle.source.specs.declared.Kind.the-variants.{Format4, Format12, Format14, Unreadable}
-use Rattle.header.specs.Header.{offsetOf}
+use Rattle.source_header.specs.Header.{offsetOf}
 use Rattle.source.specs.Kind.{kindAt}
-use Rattle.records.specs.Records.{leadsTo}
-use Rattle.listing.specs.Job.{Job, glyphCount}
-use Rattle.listing.specs.Listing.{mapsAs, maps, listed}
+use Rattle.source_records.specs.Records.{leadsTo}
+use Rattle.plan_listing.specs.Job.{Job, glyphCount}
+use Rattle.plan_listing.specs.Listing.{mapsAs, maps, listed}
 use Rattle.format4.specs.declared.Size.{Size}
 use Rattle.format4.specs.declared.Size.the-variants.{Empty as Empty4, TooLong as TooLong4, Fits}
 use Rattle.format4.specs.Size.{sizeOf as sizeOf4, lengthOf as lengthOf4}

@@ -9,7 +9,7 @@ use Rattle.laws.specs.Lists.{Pair, pairs}
 use Rattle.laws.proofs.SetsLaws.{take-sets}
 use Rattle.laws.proofs.LengthLaws.{length-map, length-pairs, length-select}
 use Rattle.number.specs.Limits.{pairsMax}
-use Rattle.listing.specs.Listing.{maps, listed, codesOf, glyphsOf, Lists, Copied}
+use Rattle.plan_listing.specs.Listing.{maps, listed, codesOf, glyphsOf, Lists, Copied}
 use Rattle.plan.specs.Making.{Pairs, Fronts}
 use Rattle.plan.specs.Front.{Front}
 

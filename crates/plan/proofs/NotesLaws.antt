@@ -12,10 +12,10 @@ use borrow.Author.Tests.{eqb-true, eqb-false}
 use Rattle.laws.proofs.ChoiceLaws.{by-test, both-left, false-true}
 use Rattle.laws.proofs.FirstLaws.{first-holds, first-none}
 use Rattle.source.specs.declared.Kind.the-variants.{Format14}
-use Rattle.header.specs.Header.{offsetOf}
+use Rattle.source_header.specs.Header.{offsetOf}
 use Rattle.source.specs.Kind.{formatOf}
-use Rattle.records.specs.Records.{leadsTo}
-use Rattle.listing.specs.Job.{Job, job}
+use Rattle.source_records.specs.Records.{leadsTo}
+use Rattle.plan_listing.specs.Job.{Job, job}
 use Rattle.plan.specs.declared.Outcome.{Outcome}
 use Rattle.plan.specs.declared.Outcome.the-variants.{NotRetained, Skipped, Empty, TooLong, Covered, BadMapping, Served, Made}
 use Rattle.plan.specs.Outcomes.{isMade, serves, server}

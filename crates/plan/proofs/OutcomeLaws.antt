@@ -5,9 +5,9 @@ use mathlib.Core.List.{List}
 use mathlib.Core.Bool.{Bool, true, false}
 use lib.ListN.{length}
 use borrow.Author.Tests.{lt-ltb, le-ltb}
-use Rattle.records.specs.Records.{retained}
+use Rattle.source_records.specs.Records.{retained}
 use Rattle.plan.specs.Covered.{covered}
-use Rattle.listing.specs.Job.{Job, job}
+use Rattle.plan_listing.specs.Job.{Job, job}
 use Rattle.plan.specs.declared.Outcome.{Outcome}
 use Rattle.plan.specs.declared.Outcome.the-variants.{NotRetained, Covered, Served}
 use Rattle.plan.specs.Outcomes.{server}

@@ -6,10 +6,10 @@ use native.Mathlib.Numerals.{add-one}
 use native.Mathlib.Omega.{arith}
 use lib.ListN.{length, getD, set, replicate, length-set}
 use Rattle.laws.proofs.ReadLaws.{getD-row}
-use Rattle.header.specs.Header.{recordCount}
-use Rattle.records.proofs.RecordsLaws.{placed}
+use Rattle.source_header.specs.Header.{recordCount}
+use Rattle.source_records.proofs.RecordsLaws.{placed}
 use Rattle.plan.specs.Covered.{Rooms}
-use Rattle.listing.specs.Job.{Job, glyphCount}
+use Rattle.plan_listing.specs.Job.{Job, glyphCount}
 use Rattle.plan.specs.declared.Outcome.{Outcome}
 use Rattle.plan.specs.declared.Outcome.the-variants.{NotRetained}
 use Rattle.plan.specs.Outcomes.{Short, Small}

@@ -12,10 +12,10 @@ use Rattle.laws.proofs.ChoiceLaws.{by-test}
 use Rattle.number.specs.BigEndian.{be}
 use Rattle.source.specs.declared.Kind.{Kind}
 use Rattle.source.specs.declared.Kind.the-variants.{Format4, Format12, Format14, Unreadable}
-use Rattle.header.specs.Header.{offsetOf}
+use Rattle.source_header.specs.Header.{offsetOf}
 use Rattle.source.specs.Kind.{formatOf}
-use Rattle.records.specs.Records.{leadsTo}
-use Rattle.listing.specs.Job.{Job, job}
+use Rattle.source_records.specs.Records.{leadsTo}
+use Rattle.plan_listing.specs.Job.{Job, job}
 use Rattle.laws.proofs.ReadLaws.{getD-row}
 use Rattle.plan.specs.Making.{Fronts}
 use Rattle.format14.specs.Selectors.{given}

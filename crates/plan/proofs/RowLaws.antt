@@ -13,8 +13,8 @@ use Rattle.laws.specs.Search.{first}
 use Rattle.laws.proofs.ChoiceLaws.{by-pick, by-leb}
 use Rattle.laws.proofs.ReadLaws.{getD-row}
 use Rattle.number.specs.Limits.{recordsMax}
-use Rattle.records.specs.Records.{retained}
-use Rattle.listing.specs.Job.{Job, glyphCount}
+use Rattle.source_records.specs.Records.{retained}
+use Rattle.plan_listing.specs.Job.{Job, glyphCount}
 use Rattle.plan.specs.Covered.{covered}
 use Rattle.plan.specs.declared.Outcome.{Outcome}
 use Rattle.plan.specs.declared.Outcome.the-variants.{NotRetained, Covered, Served}

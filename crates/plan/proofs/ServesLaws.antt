@@ -8,7 +8,7 @@ use lib.ListN.{getD}
 use Rattle.laws.proofs.SearchLaws.{Finding, looking-start, looks}
 use Rattle.source.specs.declared.Kind.{Kind}
 use Rattle.source.specs.Kind.{formatOf}
-use Rattle.records.specs.Records.{leadsTo, leadsToFormat, Placed}
+use Rattle.source_records.specs.Records.{leadsTo, leadsToFormat, Placed}
 use Rattle.plan.specs.declared.Outcome.{Outcome}
 use Rattle.plan.specs.declared.Outcome.the-variants.{NotRetained}
 use Rattle.plan.specs.Outcomes.{isMade, serves, server, Two}

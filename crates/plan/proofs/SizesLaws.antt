@@ -6,7 +6,7 @@ use native.Mathlib.Omega.{arith}
 use lib.ListN.{length}
 use Rattle.laws.specs.Lists.{Pair}
 use Rattle.laws.proofs.LengthLaws.{length-map}
-use Rattle.listing.specs.Listing.{listed, codesOf, glyphsOf}
+use Rattle.plan_listing.specs.Listing.{listed, codesOf, glyphsOf}
 use Rattle.format4.specs.declared.Size.{Size}
 use Rattle.format4.specs.Size.{sizeOf as sizeOf4}
 use Rattle.format4.proofs.CountLaws.{fits-tells}

@@ -11,12 +11,12 @@ use Rattle.laws.specs.Choice.{both}
 use Rattle.laws.specs.Select.{select, anyOf, eqList}
 use Rattle.laws.proofs.ChoiceLaws.{both-left, both-right, false-true}
 use Rattle.laws.proofs.FirstLaws.{first-ext, first-holds}
-use Rattle.header.specs.Header.{recordCount, platformOf, encodingOf, offsetOf}
-use Rattle.records.specs.Records.{leadsTo, bmpPair, fullPair, retained}
+use Rattle.source_header.specs.Header.{recordCount, platformOf, encodingOf, offsetOf}
+use Rattle.source_records.specs.Records.{leadsTo, bmpPair, fullPair, retained}
 use Rattle.plan.specs.Sibling.{isSibling, firstSibling}
 use Rattle.plan.specs.Covered.{reachesAbove, mapAlike, siblingCovers, covered}
-use Rattle.listing.specs.Job.{Job, job, glyphCount}
-use Rattle.listing.specs.Listing.{maps}
+use Rattle.plan_listing.specs.Job.{Job, job, glyphCount}
+use Rattle.plan_listing.specs.Listing.{maps}
 use Rattle.plan.specs.declared.Outcome.{Outcome}
 use Rattle.plan.specs.declared.Outcome.the-variants.{NotRetained}
 use Rattle.plan.specs.Outcomes.{Short}

@@ -6,9 +6,9 @@ use mathlib.Core.Bool.{Bool, true, false}
 use lib.Dec.{eqb}
 use lib.ListN.{getD}
 use Rattle.laws.proofs.SearchLaws.{Finding, looking-start, looks}
-use Rattle.header.specs.declared.EncodingRecord.{EncodingRecord}
-use Rattle.header.specs.Header.{platformOf, encodingOf, offsetOf, recordOf}
-use Rattle.records.specs.Records.{isPair}
+use Rattle.source_header.specs.declared.EncodingRecord.{EncodingRecord}
+use Rattle.source_header.specs.Header.{platformOf, encodingOf, offsetOf, recordOf}
+use Rattle.source_records.specs.Records.{isPair}
 use Rattle.plan.specs.declared.Outcome.{Outcome}
 use Rattle.plan.specs.declared.Outcome.the-variants.{NotRetained}
 use Rattle.plan.specs.Twins.{cameToNothing, isTwin, twin, isSpent, spent}

@@ -8,9 +8,9 @@ use Rattle.laws.specs.Choice.{both}
 use Rattle.laws.specs.Lists.{Rising}
 use Rattle.laws.specs.Search.{some}
 use Rattle.laws.specs.Select.{select, anyOf, eqList}
-use Rattle.header.specs.Header.{recordCount}
-use Rattle.records.specs.Records.{leadsToFormat, Counted}
-use Rattle.listing.specs.Listing.{maps}
+use Rattle.source_header.specs.Header.{recordCount}
+use Rattle.source_records.specs.Records.{leadsToFormat, Counted}
+use Rattle.plan_listing.specs.Listing.{maps}
 use Rattle.plan.specs.Sibling.{firstSibling}
 
 -- ---- the kept points it maps

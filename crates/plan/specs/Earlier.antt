@@ -5,8 +5,8 @@ use mathlib.Core.List.{List}
 use mathlib.Core.Bool.{true}
 use lib.ListN.{getD}
 use Rattle.number.specs.Limits.{recordsMax}
-use Rattle.records.specs.Records.{retained}
-use Rattle.listing.specs.Job.{Job}
+use Rattle.source_records.specs.Records.{retained}
+use Rattle.plan_listing.specs.Job.{Job}
 use Rattle.plan.specs.Covered.{covered}
 use Rattle.plan.specs.declared.Outcome.{Outcome}
 use Rattle.plan.specs.declared.Outcome.the-variants.{NotRetained}

@@ -7,10 +7,10 @@ use Rattle.laws.specs.Lists.{Pair, Rising}
 use Rattle.number.specs.Limits.{sourceMax, keptMax}
 use Rattle.source.specs.declared.Kind.{Kind}
 use Rattle.source.specs.declared.Kind.the-variants.{Format4, Format12, Format14, Unreadable}
-use Rattle.header.specs.Header.{offsetOf}
-use Rattle.records.specs.Records.{leadsTo}
-use Rattle.listing.specs.Job.{Job, glyphCount}
-use Rattle.listing.specs.Listing.{listed}
+use Rattle.source_header.specs.Header.{offsetOf}
+use Rattle.source_records.specs.Records.{leadsTo}
+use Rattle.plan_listing.specs.Job.{Job, glyphCount}
+use Rattle.plan_listing.specs.Listing.{listed}
 use Rattle.format4.specs.declared.RangeCounter.{RangeCounter}
 use Rattle.format4.specs.declared.Size.{Size}
 use Rattle.format4.specs.declared.Size.the-variants.{Empty as Empty4, TooLong as TooLong4, Fits}

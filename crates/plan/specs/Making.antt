@@ -5,8 +5,8 @@ use mathlib.Core.List.{List}
 use lib.ListN.{length}
 use Rattle.number.specs.Limits.{pairsMax}
 use Rattle.source.specs.Kind.{formatOf}
-use Rattle.records.specs.Records.{leadsTo, Placed}
-use Rattle.listing.specs.Listing.{listed, Beside, Columns, First}
+use Rattle.source_records.specs.Records.{leadsTo, Placed}
+use Rattle.plan_listing.specs.Listing.{listed, Beside, Columns, First}
 
 -- record k of the source is there, the font has n glyphs, the code points rise and each has a flag, and there is room for all pairs
 pub record Pairs (xs : List ℕ) (k n : ℕ) (codes glyphs flags tocodes toglyphs : List ℕ) : Type 0 where

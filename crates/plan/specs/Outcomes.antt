@@ -8,7 +8,7 @@ use Rattle.laws.specs.Choice.{both}
 use Rattle.laws.specs.Search.{first}
 use Rattle.number.specs.Limits.{recordsMax}
 use Rattle.source.specs.Kind.{formatOf}
-use Rattle.records.specs.Records.{leadsTo, leadsToFormat, Placed}
+use Rattle.source_records.specs.Records.{leadsTo, leadsToFormat, Placed}
 use Rattle.plan.specs.declared.Outcome.{Outcome}
 use Rattle.plan.specs.declared.Outcome.the-variants.{NotRetained, Skipped, Empty, TooLong, Covered, BadMapping, Served, Made}
 

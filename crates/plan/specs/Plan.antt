@@ -10,10 +10,10 @@ use Rattle.laws.specs.Choice.{pick, both, either}
 use Rattle.laws.specs.Lists.{Rising}
 use Rattle.laws.specs.Search.{some}
 use Rattle.number.specs.Limits.{recordsMax, pairsMax, sourceMax, keptMax}
-use Rattle.header.specs.Header.{recordCount}
-use Rattle.records.specs.Records.{leadsToFormat, retained, Counted}
-use Rattle.listing.specs.Job.{Job, glyphCount}
-use Rattle.listing.specs.Listing.{Columns}
+use Rattle.source_header.specs.Header.{recordCount}
+use Rattle.source_records.specs.Records.{leadsToFormat, retained, Counted}
+use Rattle.plan_listing.specs.Job.{Job, glyphCount}
+use Rattle.plan_listing.specs.Listing.{Columns}
 use Rattle.plan.specs.Covered.{covered}
 use Rattle.format14.specs.Streams.{CodePoints}
 use Rattle.plan.specs.declared.Outcome.{Outcome}

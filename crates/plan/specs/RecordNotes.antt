@@ -8,10 +8,10 @@ use lib.ListN.{length, getD}
 use Rattle.number.specs.BigEndian.{be}
 use Rattle.number.specs.Limits.{recordsMax}
 use Rattle.source.specs.declared.Kind.the-variants.{Format14}
-use Rattle.header.specs.Header.{offsetOf}
+use Rattle.source_header.specs.Header.{offsetOf}
 use Rattle.source.specs.Kind.{formatOf}
-use Rattle.records.specs.Records.{leadsTo}
-use Rattle.listing.specs.Job.{Job, glyphCount}
+use Rattle.source_records.specs.Records.{leadsTo}
+use Rattle.plan_listing.specs.Job.{Job, glyphCount}
 use Rattle.plan.specs.Making.{Fronts}
 use Rattle.format14.specs.ByNumber.{slot}
 use Rattle.format14.specs.Ends.{Ends}

@@ -7,8 +7,8 @@ use Rattle.laws.specs.Choice.{both, either}
 use Rattle.laws.specs.Search.{first}
 use Rattle.source.specs.declared.Kind.{Kind}
 use Rattle.source.specs.declared.Kind.the-variants.{Format4, Format12, Format14, Unreadable}
-use Rattle.header.specs.Header.{recordCount}
-use Rattle.records.specs.Records.{leadsTo, isPair}
+use Rattle.source_header.specs.Header.{recordCount}
+use Rattle.source_records.specs.Records.{leadsTo, isPair}
 
 -- (0,3) is the sibling of (0,4), (3,1) that of (3,10)
 abbrev pub siblingPair : List ℕ → ℕ → ℕ → Bool

@@ -6,8 +6,8 @@ use lib.Dec.{eqb}
 use lib.ListN.{getD}
 use Rattle.laws.specs.Choice.{both}
 use Rattle.laws.specs.Search.{first}
-use Rattle.header.specs.Header.{platformOf, encodingOf, offsetOf}
-use Rattle.records.specs.Records.{isPair}
+use Rattle.source_header.specs.Header.{platformOf, encodingOf, offsetOf}
+use Rattle.source_records.specs.Records.{isPair}
 use Rattle.plan.specs.declared.Outcome.{Outcome}
 use Rattle.plan.specs.declared.Outcome.the-variants.{NotRetained, Skipped, Empty, TooLong, Covered, BadMapping, Served, Made}
 

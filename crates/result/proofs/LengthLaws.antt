@@ -9,7 +9,7 @@ use lib.ListN.{length, length-append}
 use Rattle.laws.proofs.ChoiceLaws.{by-test}
 use Rattle.number.specs.BigEndian.{enc}
 use Rattle.number.proofs.BigEndianLaws.{length-enc}
-use Rattle.listing.specs.Job.{Job}
+use Rattle.plan_listing.specs.Job.{Job}
 use Rattle.plan.specs.declared.Outcome.{Outcome}
 use Rattle.plan.specs.declared.Outcome.the-variants.{Made}
 use Rattle.plan.specs.Outcomes.{isMade, madeSize}

@@ -3,9 +3,9 @@ use mathlib.Core.Path.{_≡_}
 use mathlib.Core.Bool.{false}
 use lib.ListN.{length}
 use Rattle.number.specs.BigEndian.{Bytes}
-use Rattle.checks.specs.Checks.{badSizes, badPairs}
-use Rattle.checks.proofs.SizesLaws.{sizes, codes-rise, codes-low, glyphs-low}
-use Rattle.listing.specs.Job.{Job, glyphCount}
+use Rattle.lists_checks.specs.Checks.{badSizes, badPairs}
+use Rattle.lists_checks.proofs.SizesLaws.{sizes, codes-rise, codes-low, glyphs-low}
+use Rattle.plan_listing.specs.Job.{Job, glyphCount}
 use Rattle.result.specs.Lent.{Lent}
 
 pub lent : (j : Job) → Bytes (j .source) → badSizes (length (j .source)) (length (j .codes)) (length (j .glyphs)) (length (j .kept)) (glyphCount j) (length (j .requested)) ≡ false

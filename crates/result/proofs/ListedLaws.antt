@@ -14,11 +14,11 @@ use Rattle.laws.specs.Listed as laws
 use Rattle.laws.specs.Select.{select}
 use Rattle.laws.proofs.ChoiceLaws.{pick-same, by-test}
 use Rattle.source.specs.Kind.{formatOf}
-use Rattle.records.specs.Records.{leadsTo}
-use Rattle.listing.specs.Job.{Job, glyphCount}
-use Rattle.listing.specs.Listing.{maps, listed, codesOf}
+use Rattle.source_records.specs.Records.{leadsTo}
+use Rattle.plan_listing.specs.Job.{Job, glyphCount}
+use Rattle.plan_listing.specs.Listing.{maps, listed, codesOf}
 use Rattle.plan.proofs.BelowLaws.{listed-below}
-use Rattle.cut_lookup.specs.Lookup.{Fits, Listed}
+use Rattle.format4_lookup.specs.CutLookup.{Fits, Listed}
 use Rattle.format12_lookup.specs.Lookup.{Above, above-none, above-more}
 use Rattle.format12_lookup.proofs.LookupLaws.{above-pairs}
 use Rattle.plan.specs.Fresh.{listedOf}

@@ -13,11 +13,11 @@ use Rattle.number.specs.BigEndian.{Bytes}
 use Rattle.number.proofs.BigEndianLaws.{be-lt}
 use Rattle.source.specs.declared.Kind.{Kind}
 use Rattle.source.specs.declared.Kind.the-variants.{Format4, Format12, Format14, Unreadable}
-use Rattle.header.specs.Header.{offsetOf}
+use Rattle.source_header.specs.Header.{offsetOf}
 use Rattle.source.specs.Kind.{formatOf}
 use Rattle.source.proofs.KindLaws.{tells4, tells12}
-use Rattle.records.specs.Records.{leadsTo}
-use Rattle.listing.specs.Job.{Job}
+use Rattle.source_records.specs.Records.{leadsTo}
+use Rattle.plan_listing.specs.Job.{Job}
 use Rattle.format4.specs.declared.RangeCounter.{RangeCounter}
 use Rattle.format4.specs.declared.Size.{Size}
 use Rattle.format4.specs.declared.Size.the-variants.{Empty, TooLong, Fits}

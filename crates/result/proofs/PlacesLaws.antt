@@ -11,12 +11,12 @@ use Rattle.laws.proofs.StandsLaws.{Stands, stands-append, stands-whole, stands-
 use Rattle.number.specs.BigEndian.{enc, Bytes}
 use Rattle.number.proofs.BigEndianLaws.{be-lt, length-enc}
 use Rattle.number.specs.Limits.{recordsMax}
-use Rattle.header.specs.Header.{platformOf, encodingOf, offsetOf as offsetAt}
-use Rattle.header.proofs.HeaderLaws.{Accepted}
+use Rattle.source_header.specs.Header.{platformOf, encodingOf, offsetOf as offsetAt}
+use Rattle.source_header.proofs.HeaderLaws.{Accepted}
 use Rattle.number.proofs.StandsLaws.{be-stands-enc}
 use Rattle.source.specs.Kind.{formatOf}
-use Rattle.records.specs.Records.{leadsTo}
-use Rattle.listing.specs.Job.{Job}
+use Rattle.source_records.specs.Records.{leadsTo}
+use Rattle.plan_listing.specs.Job.{Job}
 use Rattle.plan.specs.declared.Outcome.{Outcome}
 use Rattle.plan.specs.declared.Outcome.the-variants.{NotRetained, Skipped, Empty, TooLong, Covered, BadMapping, Served, Made}
 use Rattle.plan.specs.Outcomes.{isMade, madeSize}

@@ -9,10 +9,10 @@ use Rattle.laws.specs.Choice.{both}
 use Rattle.laws.proofs.ChoiceLaws.{by-leb, both-left, both-right, false-true}
 use Rattle.laws.proofs.FirstLaws.{first-holds, first-none}
 use Rattle.number.specs.Limits.{recordsMax}
-use Rattle.header.specs.Header.{recordCount}
+use Rattle.source_header.specs.Header.{recordCount}
 use Rattle.source.specs.Kind.{formatOf}
-use Rattle.records.specs.Records.{leadsTo, leadsToFormat, retained}
-use Rattle.listing.specs.Job.{Job, glyphCount}
+use Rattle.source_records.specs.Records.{leadsTo, leadsToFormat, retained}
+use Rattle.plan_listing.specs.Job.{Job, glyphCount}
 use Rattle.plan.specs.Covered.{covered}
 use Rattle.plan.specs.declared.Outcome.{Outcome}
 use Rattle.plan.specs.declared.Outcome.the-variants.{NotRetained, Skipped, Empty, TooLong, Covered, BadMapping, Served, Made}

@@ -12,10 +12,10 @@ use Rattle.laws.specs.Choice.{pick, either}
 use Rattle.laws.specs.Select.{anyOf}
 use Rattle.laws.proofs.ChoiceLaws.{both-left, both-right, by-pick, by-leb}
 use Rattle.laws.proofs.EitherLaws.{neither-left, neither-right}
-use Rattle.header.specs.Header.{refused5}
-use Rattle.records.specs.Records.{refused6, refused7}
-use Rattle.checks.specs.Checks.{badSizes, badPairs, badKept, badRequested}
-use Rattle.listing.specs.Job.{Job, glyphCount}
+use Rattle.source_header.specs.Header.{refused5}
+use Rattle.source_records.specs.Records.{refused6, refused7}
+use Rattle.lists_checks.specs.Checks.{badSizes, badPairs, badKept, badRequested}
+use Rattle.plan_listing.specs.Job.{Job, glyphCount}
 use Rattle.plan.specs.Plan.{plan, refused8, refused9}
 use Rattle.result.specs.Refusal.{Case, firstOf, earlyRefusals, lateRefusals, refusals, refusalOf, earlyRefusal, lateRefusal, held, rises}
 

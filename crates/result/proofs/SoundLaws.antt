@@ -13,10 +13,10 @@ use Rattle.laws.proofs.ChoiceLaws.{both-left, both-right, not-true, by-test}
 use Rattle.laws.proofs.FirstLaws.{first-is}
 use Rattle.number.specs.Limits.{recordsMax}
 use Rattle.source.specs.declared.Kind.the-variants.{Format4, Format12}
-use Rattle.header.specs.Header.{recordCount}
+use Rattle.source_header.specs.Header.{recordCount}
 use Rattle.source.specs.Kind.{formatOf}
-use Rattle.records.specs.Records.{leadsTo, leadsToFormat}
-use Rattle.listing.specs.Job.{Job}
+use Rattle.source_records.specs.Records.{leadsTo, leadsToFormat}
+use Rattle.plan_listing.specs.Job.{Job}
 use Rattle.format12_lookup.proofs.BytesLaws.{groups-few}
 use Rattle.format12_lookup.proofs.Format12KindLaws.{length-is}
 use Rattle.plan.specs.declared.Outcome.the-variants.{Made}

@@ -8,17 +8,17 @@ use Rattle.laws.specs.Choice.{pick}
 use Rattle.laws.specs.Lists.{pairs}
 use Rattle.laws.specs.Listed.{listedAs, listedGlyph}
 use Rattle.laws.proofs.StandsLaws.{Stands}
-use Rattle.ranges.specs.Cutting.{segments}
+use Rattle.format4_cutting.specs.Cutting.{segments}
 use Rattle.source.specs.declared.Kind.{Kind}
 use Rattle.source.specs.declared.Kind.the-variants.{Format4, Format12, Format14}
-use Rattle.header.specs.Header.{offsetOf}
+use Rattle.source_header.specs.Header.{offsetOf}
 use Rattle.source.specs.Kind.{kindAt, formatOf}
 use Rattle.source.proofs.KindLaws.{tells14}
-use Rattle.records.specs.Records.{leadsTo}
-use Rattle.lookup.specs.declared.Found.the-variants.{Nothing, Glyph}
-use Rattle.lookup.specs.Lookup.{lookup4, lookup12, glyphOf}
-use Rattle.listing.specs.Job.{Job, glyphCount}
-use Rattle.listing.specs.Listing.{maps}
+use Rattle.source_records.specs.Records.{leadsTo}
+use Rattle.heads_lookup.specs.declared.Found.the-variants.{Nothing, Glyph}
+use Rattle.heads_lookup.specs.Lookup.{lookup4, lookup12, glyphOf}
+use Rattle.plan_listing.specs.Job.{Job, glyphCount}
+use Rattle.plan_listing.specs.Listing.{maps}
 use Rattle.format4_lookup.specs.Lookup.{foundIn}
 use Rattle.format4_lookup.proofs.Format4KindLaws.{format4-kind-stands}
 use Rattle.format4_lookup.proofs.Format4FindsLaws.{format4-gives-stands, format4-finds-stands}

@@ -4,7 +4,7 @@ use lib.ListN.{length, getD}
 use Rattle.laws.specs.Lists.{Rising}
 use Rattle.number.specs.BigEndian.{Bytes}
 use Rattle.number.specs.Limits.{sourceMax, keptMax, unicodeMax, newGlyphMax}
-use Rattle.listing.specs.Job.{Job}
+use Rattle.plan_listing.specs.Job.{Job}
 
 pub record Lent (j : Job) : Type 0 where
   pub bytes : Bytes (j .source)

@@ -6,10 +6,10 @@ use lib.Dec.{ltb}
 use lib.ListN.{length}
 use Rattle.laws.specs.Choice.{pick, both}
 use Rattle.laws.specs.Select.{anyOf}
-use Rattle.header.specs.Header.{refused5}
-use Rattle.records.specs.Records.{refused6, refused7}
-use Rattle.checks.specs.Checks.{badSizes, badPairs, badKept, badRequested}
-use Rattle.listing.specs.Job.{Job, glyphCount}
+use Rattle.source_header.specs.Header.{refused5}
+use Rattle.source_records.specs.Records.{refused6, refused7}
+use Rattle.lists_checks.specs.Checks.{badSizes, badPairs, badKept, badRequested}
+use Rattle.plan_listing.specs.Job.{Job, glyphCount}
 use Rattle.plan.specs.declared.Outcome.{Outcome}
 use Rattle.plan.specs.Plan.{plan, refused8, refused9}
 

@@ -6,9 +6,9 @@ use lib.ListN.{getD}
 use Rattle.laws.specs.Choice.{pick, both}
 use Rattle.number.specs.BigEndian.{enc}
 use Rattle.number.specs.Limits.{recordsMax}
-use Rattle.header.specs.Header.{platformOf, encodingOf}
-use Rattle.records.specs.Records.{leadsToFormat}
-use Rattle.listing.specs.Job.{Job}
+use Rattle.source_header.specs.Header.{platformOf, encodingOf}
+use Rattle.source_records.specs.Records.{leadsToFormat}
+use Rattle.plan_listing.specs.Job.{Job}
 use Rattle.plan.specs.declared.Outcome.{Outcome}
 use Rattle.plan.specs.declared.Outcome.the-variants.{NotRetained, Skipped, Empty, TooLong, Covered, BadMapping, Served, Made}
 use Rattle.plan.specs.Outcomes.{isMade, madeSize}

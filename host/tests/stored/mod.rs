@@ -1,4 +1,4 @@
-//! The stored jobs: `stdin`, `stdout` and `names` as `tools/pack_vectors.py` writes them, in `crates/vectors` or the
+//! The stored jobs: `stdin`, `stdout` and `names` as `tools/pack_vectors.py` writes them, in `crates/job_vectors` or the
 //! directory that CRUSTEDLANE_VECTORS names. The answers are the program's own, since `rt check` holds it to them.
 use std::path::{Path, PathBuf};
 
@@ -13,7 +13,7 @@ pub struct Stored {
 pub fn stored() -> Vec<Stored> {
     let directory = match std::env::var_os("CRUSTEDLANE_VECTORS") {
         Some(named) => PathBuf::from(named),
-        None => Path::new(env!("CARGO_MANIFEST_DIR")).join("../crates/vectors"),
+        None => Path::new(env!("CARGO_MANIFEST_DIR")).join("../crates/job_vectors"),
     };
     let read = |name| std::fs::read(directory.join(name)).expect("a file of stored jobs");
     let (stdin, stdout) = (read("stdin"), read("stdout"));

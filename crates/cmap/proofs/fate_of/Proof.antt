@@ -1,4 +1,4 @@
-use Rattle.concluding.proofs.PassingLaws.{passing}
+use Rattle.cmap_concluding.proofs.PassingLaws.{passing}
 use Rattle.cmap.proofs.FateLaws.{fates}
 use borrow.Author.Needs.{needs}
 use Rattle.cmap.proofs.fate_of.Statement.{statement}

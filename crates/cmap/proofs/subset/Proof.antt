@@ -1,4 +1,4 @@
-use Rattle.concluding.proofs.AnswerLaws.{answers}
+use Rattle.cmap_concluding.proofs.AnswerLaws.{answers}
 use Rattle.cmap.proofs.SubsetLaws.{answering}
 use borrow.Author.Needs.{needs}
 use Rattle.cmap.proofs.subset.Statement.{statement}

@@ -46,31 +46,31 @@ use denote.Triple.Table.{entered, cited}
 use denote.Triple.Walked.{says, Stays, stay-dropped, gave-slice, walkOf, goes-dropped, goes-gave-slice, Walks, ends-at, walked, walk-meets}
 use denote.Exit.{yes}
 use Rattle.laws.specs.Choice as choice
-use Rattle.listing.specs.Job.{job}
+use Rattle.plan_listing.specs.Job.{job}
 use Rattle.laws.specs.Lists.{laid}
-use Rattle.pairs.specs.declared.Pair.{Pair}
-use Rattle.pairs.specs.Pairs as column
-use Rattle.pairs.specs.Pairs.{codesOf, glyphsOf}
-use Rattle.pairs.proofs.LaidLaws.{laid-first, laid-length}
-use Rattle.pairs.proofs.Relend.{relend, regain}
-use Rattle.pairs.proofs.Pair as T
-use Rattle.told.specs.declared.FateAnswer.{FateAnswer}
-use Rattle.calls.specs.Calls.{broken}
-use Rattle.pair_sizes.proofs.SizesLaws.{long}
-use Rattle.promised.specs.declared.FateKind.the-variants.{Refused}
-use Rattle.promised.specs.Fates.{fateOf, noFate}
-use Rattle.told.specs.Told.{toldFate}
-use Rattle.calls.specs.Calls.{recordFateOf, codesAfter, glyphsAfter}
-use Rattle.told.proofs.FateAnswer as An
-use Rattle.told.proofs.FateAnswer.Laws as An′
-use Rattle.pair_sizes.proofs.sizes_broken as sizes
-use Rattle.pair_sizes.proofs.sizes_broken.Symbol as sizes-def
-use Rattle.pair_sizes.proofs.sizes_broken.Symbol.{name as #sizes}
-use Rattle.pair_sizes.proofs.sizes_broken.Met as sizes-thm
-use Rattle.pairs.proofs.copy_pairs as copy-pairs
-use Rattle.pairs.proofs.copy_pairs.Symbol as copy-def
-use Rattle.pairs.proofs.copy_pairs.Symbol.{name as #copy}
-use Rattle.pairs.proofs.copy_pairs.Met as copy-thm
+use Rattle.host_pairs.specs.declared.Pair.{Pair}
+use Rattle.host_pairs.specs.Pairs as column
+use Rattle.host_pairs.specs.Pairs.{codesOf, glyphsOf}
+use Rattle.host_pairs.proofs.LaidLaws.{laid-first, laid-length}
+use Rattle.host_pairs.proofs.Relend.{relend, regain}
+use Rattle.host_pairs.proofs.Pair as T
+use Rattle.host_told.specs.declared.FateAnswer.{FateAnswer}
+use Rattle.host_calls.specs.Calls.{broken}
+use Rattle.host_pairs.proofs.SizesLaws.{long}
+use Rattle.cmap_promise.specs.declared.FateKind.the-variants.{Refused}
+use Rattle.cmap_promise.specs.Fates.{fateOf, noFate}
+use Rattle.host_told.specs.Told.{toldFate}
+use Rattle.host_calls.specs.Calls.{recordFateOf, codesAfter, glyphsAfter}
+use Rattle.host_told.proofs.FateAnswer as An
+use Rattle.host_told.proofs.FateAnswer.Laws as An′
+use Rattle.host_pairs.proofs.sizes_broken as sizes
+use Rattle.host_pairs.proofs.sizes_broken.Symbol as sizes-def
+use Rattle.host_pairs.proofs.sizes_broken.Symbol.{name as #sizes}
+use Rattle.host_pairs.proofs.sizes_broken.Met as sizes-thm
+use Rattle.host_pairs.proofs.copy_pairs as copy-pairs
+use Rattle.host_pairs.proofs.copy_pairs.Symbol as copy-def
+use Rattle.host_pairs.proofs.copy_pairs.Symbol.{name as #copy}
+use Rattle.host_pairs.proofs.copy_pairs.Met as copy-thm
 use Rattle.crustedlane.proofs.fate_on_room as core
 use Rattle.crustedlane.proofs.fate_on_room.Symbol as core-def
 use Rattle.crustedlane.proofs.fate_on_room.Symbol.{name as #core}
@@ -370,6 +370,6 @@ cmap-fate-spec 𝓤 H 𝓜 𝓖 𝓡 =
     entered 𝓤 H (tripleOf 𝓤 H (𝓖 .A) f.signature (f.spec 𝓤 H (𝓖 .A) (𝓜 .mem) (𝓡 .run)))
     (tables 𝓤 H 𝓜 𝓡 code.env .C) (tables 𝓤 H 𝓜 𝓡 code.env .Λ) #crustedlane·cmap-fate code.function (code.unfolded 𝓤 H 𝓜 𝓡)
     (meets 𝓤 H (𝓖 .A) (givenOf 𝓤 H 𝓜 𝓖) (𝓜 .mem) (𝓡 .run) (tablesOf 𝓤 H 𝓜 (tables 𝓤 H 𝓜 𝓡 code.env))
-    (cited 𝓤 H (Sizes 𝓤 H (𝓖 .A) (𝓜 .mem) (𝓡 .run)) 𝓜 𝓡 code.env #sizes sizes-def.routine code.calls-pair-sizes·sizes-broken (sizes-thm.met 𝓤 H 𝓜 𝓖 𝓡))
-    (cited 𝓤 H (Copy 𝓤 H (𝓖 .A) (𝓜 .mem) (𝓡 .run)) 𝓜 𝓡 code.env #copy copy-def.routine code.calls-pairs·copy-pairs (copy-thm.met 𝓤 H 𝓜 𝓖 𝓡))
+    (cited 𝓤 H (Sizes 𝓤 H (𝓖 .A) (𝓜 .mem) (𝓡 .run)) 𝓜 𝓡 code.env #sizes sizes-def.routine code.calls-host-pairs·sizes-broken (sizes-thm.met 𝓤 H 𝓜 𝓖 𝓡))
+    (cited 𝓤 H (Copy 𝓤 H (𝓖 .A) (𝓜 .mem) (𝓡 .run)) 𝓜 𝓡 code.env #copy copy-def.routine code.calls-host-pairs·copy-pairs (copy-thm.met 𝓤 H 𝓜 𝓖 𝓡))
     (cited 𝓤 H (Core 𝓤 H (𝓖 .A) (𝓜 .mem) (𝓡 .run)) 𝓜 𝓡 code.env #core core-def.routine code.calls-crustedlane·fate-on-room (core-thm.met 𝓤 H 𝓜 𝓖 𝓡)))

@@ -1,5 +1,5 @@
 use Rattle.laws.proofs.TakeLaws.{take-counts}
-use Rattle.told.proofs.TellLaws.{telling}
+use Rattle.host_told.proofs.TellLaws.{telling}
 use borrow.Author.Needs.{needs}
 use Rattle.crustedlane.proofs.subset_on_room.Statement.{statement}
 use Rattle.crustedlane.proofs.subset_on_room.Tie as tie

@@ -1,5 +1,5 @@
 -- Four numbers, three more behind them, and the zero.
-use Rattle.segment_writer.proofs.PlacesLaws.{header-is}
+use Rattle.format4_columns.proofs.PlacesLaws.{header-is}
 use borrow.Author.Needs.{needs}
 use Rattle.format4_writer.proofs.put_header.Statement.{statement}
 use Rattle.format4_writer.proofs.put_header.Tie as tie

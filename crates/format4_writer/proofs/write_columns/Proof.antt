@@ -2,7 +2,7 @@
 use Rattle.format4_writer.proofs.write_columns.Statement.{statement}
 use Rattle.format4_writer.proofs.write_columns.Tie as tie
 use borrow.Author.Needs.{needs}
-use Rattle.segment_writer.proofs.WalkLaws.{Writing, writing-start, writing-room, writing-on, ending-room, closing-room, ended-long, ended-is}
+use Rattle.format4_columns.proofs.WalkLaws.{Writing, writing-start, writing-room, writing-on, ending-room, closing-room, ended-long, ended-is}
 use lib.ListN.{length}
 use native.Mathlib.Omega.{arith}
 use mathlib.Core.Path.{_∙_}

@@ -1,5 +1,5 @@
 -- Damaged bytes are told as 12; else the arrays hold the job's lists, and the call's answer is told.
-use Rattle.replies.proofs.AnsweredLaws.{answer-damaged, answer-at}
+use Rattle.job_output.proofs.AnsweredLaws.{answer-damaged, answer-at}
 use Rattle.job_lists.proofs.LentLaws.{lent}
 use native.Mathlib.Omega.{arith}
 use mathlib.Core.Path.{sym, _∙_}

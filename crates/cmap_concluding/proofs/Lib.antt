@@ -1,0 +1,3 @@
+pub mod PassingLaws
+pub mod AnswerLaws
+pub mod FateLaws

@@ -1,0 +1,156 @@
+-- What the promise of the call comes to: each number exactly when it is due, nothing written by a refusal, the result and the output's rest by an acceptance, and one answer only.
+use Prim.Native.Nat.{ℕ, _+_, _<_, _≤_}
+use mathlib.Core.Path.{_≡_, refl, sym, ap, subst, _∙_}
+use mathlib.Core.List.{List, _∷_, _++_}
+use mathlib.Core.Bool.{Bool, true, false}
+use native.Mathlib.Omega.{arith}
+use lib.Dec.{ltb, eqb}
+use lib.ListN.{length, getD, take, drop, length-append}
+use lib.Seq.{take-at}
+use borrow.Author.Tests.{eqb-true, ltb-true, ltb-false, ne-eqb}
+use Rattle.laws.specs.Choice.{pick}
+use Rattle.laws.specs.Lists.{laid}
+use Rattle.laws.proofs.ChoiceLaws.{by-pick, by-leb, false-true}
+use Rattle.laws.proofs.SomeLaws.{some-false}
+use Rattle.number.specs.Limits.{recordsMax}
+use Rattle.source_header.specs.Header.{recordCount}
+use Rattle.source_header.proofs.HeaderLaws.{accepted-of}
+use Rattle.plan_listing.specs.Job.{Job}
+use Rattle.plan.specs.declared.Outcome.{Outcome}
+use Rattle.plan.specs.declared.Outcome.the-variants.{NotRetained, Skipped, Empty, TooLong, Covered, BadMapping, Served, Made}
+use Rattle.plan.specs.Outcomes.{isBad}
+use Rattle.plan.specs.Plan.{plan, refused8}
+use Rattle.result.specs.Result.{at, written}
+use Rattle.result.specs.Refusal.{Case, firstOf, refusalOf, rises}
+use Rattle.result.proofs.RefusalLaws.{Given, given-exactly, Accepted, accepted-exactly, passed}
+use Rattle.cmap_promise.specs.declared.Answer.{Answer}
+use Rattle.cmap_promise.specs.declared.Answer.the-variants.{Written, Refused, NoRoom}
+use Rattle.cmap_promise.specs.declared.Fate.{Fate}
+use Rattle.cmap_promise.specs.declared.FateKind.the-variants.{Refused as FateRefused, NoSuchRecord}
+use Rattle.cmap_promise.specs.Fates.{numberOf as fateNumberOf, kindOf, recordFate, noFate, fateOf}
+use Rattle.cmap_promise.specs.Cmap.{numberOf, lengthOf, result, refusalsIn, numberIn, answerOf, outputOf}
+use Rattle.cmap_promise.proofs.NumberLaws.{number-refused, number-passed}
+
+-- ---- the number
+
+all-rise : (j : Job) (room : ℕ) → rises 0 (refusalsIn j room) ≡ true
+unfolding rises
+all-rise j room = refl
+
+-- a refusal's number is given exactly when its condition holds and none before it does
+pub numbered-exactly : (j : Job) (room : ℕ) (front back : List Case) (n : ℕ) (b : Bool) → refusalsIn j room ≡ front ++ ((n, b) ∷ back) → Given (numberIn j room) front n b
+unfolding numberIn
+numbered-exactly j room front back n b e =
+    let r = subst (λ (cs : List Case). rises 0 cs ≡ true) e (all-rise j room) in
+    subst (λ (cs : List Case). Given (firstOf cs) front n b) (sym e) (given-exactly front back n b r)
+
+-- an acceptance exactly where no condition holds
+pub accepted-exactly-in : (j : Job) (room : ℕ) → Accepted (numberIn j room) (refusalsIn j room)
+unfolding numberIn
+accepted-exactly-in j room = accepted-exactly (refusalsIn j room) (all-rise j room)
+
+-- the answer's own number
+pub number-answered : (j : Job) (room : ℕ) → numberOf (answerOf j room) ≡ numberIn j room
+unfolding answerOf
+number-answered j room =
+    let n = numberIn j room in
+    let accepted = Written (length (result j)) (written (plan j)) in
+    let short = NoRoom (length (result j)) in
+    by-pick (λ a. numberOf a ≡ n) (eqb n 0) accepted (pick (eqb n 10) short (Refused n))
+    (λ e. sym (eqb-true n 0 e))
+    (λ e. by-pick (λ a. numberOf a ≡ n) (eqb n 10) short (Refused n) (λ f. sym (eqb-true n 10 f)) (λ f. refl))
+
+-- ---- an acceptance
+
+accepted-passed : (j : Job) (room : ℕ) → numberIn j room ≡ 0 → refusalOf j ≡ 0
+accepted-passed j room e =
+    by-leb (refusalOf j ≡ 0) 1 (refusalOf j)
+    (λ h. absurd (omega (arith, h, sym (number-refused j room h) ∙ e)))
+    (λ h. omega arith)
+
+pub accepted-fits : (j : Job) (room : ℕ) → numberIn j room ≡ 0 → length (result j) ≤ room
+accepted-fits j room e =
+    let q = sym (number-passed j room (accepted-passed j room e)) ∙ e in
+    ltb-false room (length (result j)) (go (ltb room (length (result j))) q)
+  where
+    go : (t : Bool) → _≡_ {A = ℕ} (pick t 10 0) 0 → t ≡ false
+    go true f = absurd (omega arith)
+    go false f = refl
+
+module _ (j : Job) (out : List ℕ) where
+  pub accepted-output : numberIn j (length out) ≡ 0 → outputOf j out ≡ laid (result j) out
+  unfolding outputOf
+  accepted-output e = rw e
+
+  pub refused-output : 0 < numberIn j (length out) → outputOf j out ≡ out
+  unfolding outputOf
+  refused-output h = rw (ne-eqb (numberIn j (length out)) 0 (λ z. omega (arith, h, z)))
+
+  module _ (n k : ℕ) (w : answerOf j (length out) ≡ Written n k) where
+    accepted : numberIn j (length out) ≡ 0
+    accepted = sym (number-answered j (length out)) ∙ ap numberOf w
+
+    -- no refusal held
+    pub written-passed : refusalOf j ≡ 0
+    written-passed = accepted-passed j (length out) accepted
+
+    pub written-length : n ≡ length (result j)
+    unfolding answerOf
+    written-length =
+        let f : answerOf j (length out) ≡ Written (length (result j)) (written (plan j)) = rw accepted in
+        ap lengthOf (sym w ∙ f)
+
+    -- what is written stands in the first places
+    pub written-fits : n ≤ length (outputOf j out)
+    written-fits = rw (accepted-output accepted, written-length) (omega (arith, length-append (result j) (drop (length (result j)) out)))
+
+    pub written-front : take n (outputOf j out) ≡ result j
+    written-front = rw (accepted-output accepted, written-length) (take-at (result j) (drop (length (result j)) out) (length (result j)) refl)
+
+-- ---- one answer only
+
+-- any two results that an equation with a definition allows are equal
+pub once : {A : Type 0} {a b : A} (c : A) → a ≡ c → b ≡ c → a ≡ b
+once c e f = e ∙ sym f
+
+pub fate-once : (j : Job) (k : ℕ) {a b : Fate} → a ≡ fateOf j k → b ≡ fateOf j k → a ≡ b
+fate-once j k = once (fateOf j k)
+
+-- what the promise allows
+pub record Allowed (j : Job) (out : List ℕ) (a : Answer) (fin : List ℕ) : Type 0 where
+  pub answer : a ≡ answerOf j (length out)
+  pub output : fin ≡ outputOf j out
+
+pub allowed-once : {j : Job} {out : List ℕ} {a b : Answer} {fin last : List ℕ} → Allowed j out a fin → Allowed j out b last → (a ≡ b) × (fin ≡ last)
+allowed-once {j} {out} x y = (once (answerOf j (length out)) (x .answer) (y .answer), once (outputOf j out) (x .output) (y .output))
+
+-- ---- the number of a fate
+
+kind-number : (os : List Outcome) (o : Outcome) (k : ℕ) → isBad o ≡ false → fateNumberOf (kindOf os o k) ≡ 0
+kind-number os NotRetained k e = refl
+kind-number os Skipped k e = refl
+kind-number os Empty k e = refl
+kind-number os TooLong k e = refl
+kind-number os Covered k e = refl
+kind-number os BadMapping k e = absurd (false-true (sym e))
+kind-number os (Served by) k e = refl
+kind-number os (Made size) k e = refl
+
+-- it is the job's refusal, and 0 where there is none: refusal 8 leaves no bad mapping
+pub fate-number : (j : Job) (k : ℕ) → fateNumberOf (fateOf j k .kind) ≡ refusalOf j
+unfolding fateOf refused8
+fate-number j k =
+    let os = plan j in
+    let count = recordCount (j .source) in
+    let P : Fate → Type 0 = λ f. fateNumberOf (f .kind) ≡ refusalOf j in
+    by-pick P (eqb (refusalOf j) 0) (pick (ltb k count) (recordFate (j .source) os k) (noFate NoSuchRecord)) (noFate (FateRefused (refusalOf j)))
+    (λ e.
+    let z = eqb-true (refusalOf j) 0 e in
+    let p = passed j z in
+    let few = accepted-of (j .source) (p .header) .few in
+    by-pick P (ltb k count) (recordFate (j .source) os k) (noFate NoSuchRecord)
+    (λ l.
+    let h = ltb-true k count l in
+    kind-number os (at os k) k (some-false (λ i. isBad (getD os i NotRetained)) recordsMax 0 (p .mappings) k (omega arith) (omega (arith, h, few))) ∙ sym z)
+    (λ l. sym z))
+    (λ e. refl)

@@ -1,0 +1,2 @@
+pub mod RefusingLaws
+pub mod LateLaws

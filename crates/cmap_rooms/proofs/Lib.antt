@@ -1,0 +1,2 @@
+pub mod CarryingLaws
+pub mod RoomsLaws

@@ -1,2 +1,0 @@
-pub mod CollectLaws
-pub mod DownLaws

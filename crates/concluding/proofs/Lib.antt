@@ -1,2 +1,0 @@
-pub mod PassingLaws
-pub mod AnswerLaws

@@ -1,0 +1,3 @@
+pub mod MeasuringLaws
+pub mod PlacingLaws
+pub mod EqualLaws

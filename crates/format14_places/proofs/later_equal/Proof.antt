@@ -1,0 +1,74 @@
+-- The tables after t are asked one by one.
+use borrow.Author.Needs.{needs}
+use native.Mathlib.Omega.{arith}
+use Prim.Native.Nat.{_+_, _-_}
+use mathlib.Core.Path.{_≡_}
+use lib.ListN.{length}
+use Rattle.laws.specs.Select.{eqList}
+use Rattle.laws.proofs.SearchLaws.{Seeking, seeking}
+use Rattle.format14_places.proofs.EqualLaws.{alls}
+use Rattle.format14.specs.Selectors.{given}
+use Rattle.format14.specs.ByNumber.{slot}
+use Rattle.format14_places.proofs.later_equal.Statement.{statement}
+use Rattle.format14_places.proofs.later_equal.Tie as tie
+
+abbrev Inv-loop : tie.InvT-loop
+Inv-loop s at len kept map requested flags₀ others₀ lengths sums m t j₀ flags others j = Seeking (λ i. eqList (slot (given s at len kept map requested) t) (slot (given s at len kept map requested) i)) m (t + 1) j × ((length flags ≡ length flags₀) × (length others ≡ length others₀))
+
+abbrev μ-loop : tie.MeasureT-loop
+μ-loop s at len kept map requested flags₀ others₀ lengths sums m t j₀ flags others j = m - j
+
+add-j : tie.Need-add-j Inv-loop μ-loop
+add-j c = search needs
+
+loop-holds : tie.Need-loop-holds Inv-loop μ-loop
+loop-holds c = (search (needs, seeking), search needs)
+
+equal-tables-requires : tie.Need-equal-tables-requires Inv-loop μ-loop
+equal-tables-requires c κs = (search needs, (omega arith, (omega arith, (search alls, (search alls, search needs)))))
+
+same-length : tie.Need-same-length Inv-loop μ-loop
+same-length c = search needs
+
+same-length-2 : tie.Need-same-length-2 Inv-loop μ-loop
+same-length-2 c = search needs
+
+returns : tie.Need-returns Inv-loop μ-loop
+returns c = search seeking
+
+add-j-2 : tie.Need-add-j-2 Inv-loop μ-loop
+add-j-2 c = search needs
+
+loop-less : tie.Need-loop-less Inv-loop μ-loop
+loop-less c = omega arith
+
+loop-again : tie.Need-loop-again Inv-loop μ-loop
+loop-again c = (search seeking, omega arith)
+
+same-length-3 : tie.Need-same-length-3 Inv-loop μ-loop
+same-length-3 c = search needs
+
+same-length-4 : tie.Need-same-length-4 Inv-loop μ-loop
+same-length-4 c = search needs
+
+returns-2 : tie.Need-returns-2 Inv-loop μ-loop
+returns-2 c = search seeking
+
+pub later-equal-spec : {M : Type 1} → statement M
+later-equal-spec =
+    tie.close
+    (tie.spec
+    Inv-loop
+    μ-loop
+    add-j
+    loop-holds
+    equal-tables-requires
+    same-length
+    same-length-2
+    returns
+    add-j-2
+    loop-less
+    loop-again
+    same-length-3
+    same-length-4
+    returns-2)

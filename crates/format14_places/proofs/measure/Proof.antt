@@ -1,0 +1,95 @@
+-- Each table before this one has its length and checksum stored, and its source's place.
+use Rattle.format14_places.proofs.measure.Statement.{statement}
+use Rattle.format14_places.proofs.measure.Tie as tie
+use borrow.Author.Needs.{needs}
+use native.Mathlib.Omega.{arith}
+use lib.ListN.{length, length-set}
+use mathlib.Core.Path.{_≡_}
+use Prim.Native.Nat.{_-_, _≤_}
+use Rattle.format14.specs.ByNumber.{slot}
+use Rattle.format14.specs.Selectors.{given}
+use Rattle.format14_places.specs.Measuring.{Sources, Refused}
+use Rattle.format14_places.proofs.MeasuringLaws.{Measuring, measuring, before, sourcing, refusing, refused-all}
+
+abbrev Inv-loop : tie.InvT-loop
+Inv-loop s at len kept map requested flags₀ lengths₀ sums₀ m sources₀ t₀ refused₀ flags lengths sums sources t refused =
+    Measuring (slot (given s at len kept map requested)) m t lengths sums × (Sources s at len kept t sources × (Refused (given s at len kept map requested) t refused × ((length flags ≡ length flags₀) × ((length lengths ≡ length lengths₀) × ((length sums ≡ length sums₀) × ((length sources ≡ 1024) × (m ≤ 1024)))))))
+
+abbrev μ-loop : tie.MeasureT-loop
+μ-loop s at len kept map requested flags₀ lengths₀ sums₀ m sources₀ t₀ refused₀ flags lengths sums sources t refused =
+    m - t
+
+loop-holds : tie.Need-loop-holds Inv-loop μ-loop
+loop-holds c = (search measuring, (search sourcing, (search refusing, (search needs, (search needs, (search needs, (search needs, omega arith)))))))
+
+source-table-requires : tie.Need-source-table-requires Inv-loop μ-loop
+source-table-requires c κs = search needs
+
+slice-aggregate-measure-one : tie.Need-slice-aggregate-measure-one Inv-loop μ-loop
+slice-aggregate-measure-one c = search needs
+
+measure-one-requires : tie.Need-measure-one-requires Inv-loop μ-loop
+measure-one-requires c κs = (search needs, (omega arith, (search needs, (search before, (search before, (search needs, search needs))))))
+
+mul-lengths : tie.Need-mul-lengths Inv-loop μ-loop
+mul-lengths c = search needs
+
+slice-write-lengths : tie.Need-slice-write-lengths Inv-loop μ-loop
+slice-write-lengths c = search needs
+
+mul-sums : tie.Need-mul-sums Inv-loop μ-loop
+mul-sums c = search needs
+
+slice-write-sums : tie.Need-slice-write-sums Inv-loop μ-loop
+slice-write-sums c = search needs
+
+mul-sources : tie.Need-mul-sources Inv-loop μ-loop
+mul-sources c = search needs
+
+array-write-sources : tie.Need-array-write-sources Inv-loop μ-loop
+array-write-sources c = search needs
+
+add-t : tie.Need-add-t Inv-loop μ-loop
+add-t c = search needs
+
+loop-less : tie.Need-loop-less Inv-loop μ-loop
+loop-less c = omega arith
+
+loop-again : tie.Need-loop-again Inv-loop μ-loop
+loop-again c = (search measuring, (search sourcing, (search needs, (omega arith, (rw length-set (omega arith), (rw length-set (omega arith), (rw length-set (omega arith), omega arith)))))))
+
+same-length : tie.Need-same-length Inv-loop μ-loop
+same-length c = search needs
+
+same-length-2 : tie.Need-same-length-2 Inv-loop μ-loop
+same-length-2 c = search needs
+
+same-length-3 : tie.Need-same-length-3 Inv-loop μ-loop
+same-length-3 c = search needs
+
+returns : tie.Need-returns Inv-loop μ-loop
+returns c = (search refused-all, (search measuring, search measuring))
+
+pub measure-spec : {M : Type 1} → statement M
+measure-spec =
+    tie.close
+    (tie.spec
+    Inv-loop
+    μ-loop
+    loop-holds
+    source-table-requires
+    slice-aggregate-measure-one
+    measure-one-requires
+    mul-lengths
+    slice-write-lengths
+    mul-sums
+    slice-write-sums
+    mul-sources
+    array-write-sources
+    add-t
+    loop-less
+    loop-again
+    same-length
+    same-length-2
+    same-length-3
+    returns)

@@ -1,0 +1,3 @@
+pub mod DownwardLaws
+pub mod CollectLaws
+pub mod DownLaws

@@ -1,0 +1,3 @@
+pub mod LaidLaws
+pub mod Relend
+pub mod SizesLaws

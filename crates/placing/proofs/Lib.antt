@@ -1,2 +1,0 @@
-pub mod PlacingLaws
-pub mod EqualLaws

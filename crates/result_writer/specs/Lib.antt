@@ -1,0 +1,3 @@
+pub mod RecordParts
+pub mod TableParts
+pub mod Writing

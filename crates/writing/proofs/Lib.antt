@@ -1,3 +1,0 @@
-pub mod PlannedLaws
-pub mod TablesLaws
-pub mod WholeLaws
