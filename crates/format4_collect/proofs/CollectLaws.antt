@@ -9,7 +9,7 @@ use Rattle.laws.proofs.ChoiceLaws.{false-true}
 use Rattle.laws.proofs.FrontLaws.{sets-over}
 use Rattle.laws.proofs.SearchLaws.{Looking, looking-start, looking-none}
 use Rattle.lists_marks.specs.Marks.{flagged, painted, Flags, Cleared}
-use Rattle.lists_marks.proofs.MarksLaws.{Saying, saying-none, saying-on, flagged-ext, length-flagged}
+use Rattle.lists_marks.proofs.MarksLaws.{Saying, saying-none, saying-on, flagged-ext, length-flagged, cleared}
 use Rattle.format4_mapped.specs.declared.Segment.{Segment}
 use Rattle.format4_collect.specs.Walks.{Walked}
 use Rattle.format4_mapped.specs.Mapped4.{Read4, stops4, holds4, says4, lastSays, among4, maps4}
@@ -71,6 +71,9 @@ module _ (b : Bool) (p : ℕ → Bool) (ps fs₀ fs : List ℕ) (w : Walked b p 
 
   pub walked-anew : (fs₁ fs₂ : List ℕ) → fs₁ ≡ sets fs 0 (replicate (length ps) 0) → fs₂ ≡ sets fs₁ 0 (flagged p ps) → fs₂ ≡ sets fs₀ 0 (flagged p ps)
   walked-anew fs₁ fs₂ e d = d ∙ ap (λ (x : List ℕ). sets x 0 (flagged p ps)) (e ∙ w .again)
+
+  pub walked-clear : (fs₁ : List ℕ) → fs₁ ≡ sets fs 0 (replicate (length ps) 0) → Cleared (length ps) fs₁
+  walked-clear fs₁ e = cleared (length ps) fs fs₁ e
 
 pub ruleset walked = (walked-stop, walked-end, walked-off, walked-all, walked-anew)
 

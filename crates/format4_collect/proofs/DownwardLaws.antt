@@ -138,8 +138,6 @@ module _ (v : ℕ → Bool) (noted ps fs : List ℕ) (low high : ℕ) (n : Noted
         over = λ k h. refl;
       }
 
-pub ruleset noting = (noted-kept, noted-more, noted-skip)
-
 -- ---- the points of a segment
 
 rising-over : (ps : List ℕ) → Rising ps → (k : ℕ) → k < length ps → k ≤ getD ps k 0

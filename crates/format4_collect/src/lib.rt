@@ -1,6 +1,8 @@
 // Which code points of a rising list a format 4 subtable maps, asked for all at once in one walk over the segments, in order or from the
 // last to the first. Walking down, blocks of points that are decided are passed over.
 use format4_mapped::Segment;
+use lists_spans::Span;
+use source::Segments;
 ghost use mathlib.Core.Path.{_≡_};
 ghost use Prim.Native.Nat.{_+_, _*_, _/_, _≤_, _<_};
 ghost use Rattle.lists_marks.specs.Marks.{Flags, flagged, flagOf, painted, Cleared};
@@ -27,34 +29,28 @@ fn decided_flag(flag: u8, mapped: bool) -> u8
     2
 }
 
-// Segment i's word on the points from low on, up to high, all of which it holds.
+// Segment i's word on the points of a span, all of which it holds.
 fn decide_points(
     s: &[u8],
-    at: usize,
-    segs: usize,
-    len: usize,
+    t: Segments,
     i: usize,
     segment: Segment,
     points: &[u32],
     flags: &mut [u8],
-    low: usize,
-    high: usize,
+    span: Span,
 )
-    requires { ⌜ Room4 (now s) at segs len ⌝ }
-    requires { ⌜ Read4 (now s) at segs i segment ⌝ }
-    requires { ⌜ (i < segs) × (low ≤ high) ⌝ }
-    requires { ⌜ Held (now points) (segment .start) (segment .end) low high ⌝ }
+    requires { ⌜ Room4 (now s) t ⌝ }
+    requires { ⌜ Read4 (now s) (t .at) (t .segs) i segment ⌝ }
+    requires { ⌜ (i < t .segs) × (span .low ≤ span .high) ⌝ }
+    requires { ⌜ Held (now points) (segment .start) (segment .end) (span .low) (span .high) ⌝ }
     requires { ⌜ Flags (now points) (now flags) ⌝ }
-    ensures { λ _. ⌜ Decided (says4 (now (s .entry)) at segs len i segment) (now (points .entry)) (now (flags .entry)) (now (flags .exit)) low high ⌝ }
+    ensures { λ _. ⌜ Decided (says4 (now (s .entry)) (t .at) (t .segs) (t .len) i segment) (now (points .entry)) (now (flags .entry)) (now (flags .exit)) (span .low) (span .high) ⌝ }
 {
-    let mut j = low;
-    while j < high {
+    let mut j = span.low;
+    while j < span.high {
         let c = points[j];
         let flag = flags[j];
-        flags[j] = decided_flag(
-            flag,
-            format4_segments::segment_maps(s, at, segs, len, i, segment, c),
-        );
+        flags[j] = decided_flag(flag, format4_segments::segment_maps(s, t, i, segment, c));
         j += 1;
     }
 }
@@ -62,63 +58,58 @@ fn decide_points(
 // The same within one block: passed over where the block is noted, and noted where it is decided whole.
 fn decide_block(
     s: &[u8],
-    at: usize,
-    segs: usize,
-    len: usize,
+    t: Segments,
     i: usize,
     segment: Segment,
     points: &[u32],
     flags: &mut [u8],
     noted: &mut [u8; 256],
-    low: usize,
-    high: usize,
+    span: Span,
 )
-    requires { ⌜ Room4 (now s) at segs len ⌝ }
-    requires { ⌜ Read4 (now s) at segs i segment ⌝ }
-    requires { ⌜ (i < segs) × (low < 65536) ⌝ }
-    requires { ⌜ Held (now points) (segment .start) (segment .end) low high ⌝ }
+    requires { ⌜ Room4 (now s) t ⌝ }
+    requires { ⌜ Read4 (now s) (t .at) (t .segs) i segment ⌝ }
+    requires { ⌜ (i < t .segs) × (span .low < 65536) ⌝ }
+    requires { ⌜ Held (now points) (segment .start) (segment .end) (span .low) (span .high) ⌝ }
     requires { ⌜ Flags (now points) (now flags) ⌝ }
     requires { ⌜ Noted (now noted) (now flags) ⌝ }
-    requires { ⌜ (low < high) × (high ≤ 256 * (low / 256) + 256) ⌝ }
-    ensures { λ _. ⌜ Decided (says4 (now (s .entry)) at segs len i segment) (now (points .entry)) (now (flags .entry)) (now (flags .exit)) low high ⌝ }
+    requires { ⌜ (span .low < span .high) × (span .high ≤ 256 * (span .low / 256) + 256) ⌝ }
+    ensures { λ _. ⌜ Decided (says4 (now (s .entry)) (t .at) (t .segs) (t .len) i segment) (now (points .entry)) (now (flags .entry)) (now (flags .exit)) (span .low) (span .high) ⌝ }
     ensures { λ _. ⌜ Noted (now (noted .exit)) (now (flags .exit)) ⌝ }
 {
-    if noted[low / BLOCK] != 0 {
+    if noted[span.low / BLOCK] != 0 {
         return;
     }
-    decide_points(s, at, segs, len, i, segment, points, flags, low, high);
-    if low + BLOCK <= high {
-        noted[low / BLOCK] = 1;
+    decide_points(s, t, i, segment, points, flags, span);
+    if span.low + BLOCK <= span.high {
+        noted[span.low / BLOCK] = 1;
     }
 }
 
 // The same, block by block.
 fn decide_blocks(
     s: &[u8],
-    at: usize,
-    segs: usize,
-    len: usize,
+    t: Segments,
     i: usize,
     segment: Segment,
     points: &[u32],
     flags: &mut [u8],
     noted: &mut [u8; 256],
-    low: usize,
-    high: usize,
+    span: Span,
 )
-    requires { ⌜ Room4 (now s) at segs len ⌝ }
-    requires { ⌜ Read4 (now s) at segs i segment ⌝ }
-    requires { ⌜ (i < segs) × (low ≤ high) × (high ≤ 65536) ⌝ }
-    requires { ⌜ Held (now points) (segment .start) (segment .end) low high ⌝ }
+    requires { ⌜ Room4 (now s) t ⌝ }
+    requires { ⌜ Read4 (now s) (t .at) (t .segs) i segment ⌝ }
+    requires { ⌜ (i < t .segs) × (span .low ≤ span .high) × (span .high ≤ 65536) ⌝ }
+    requires { ⌜ Held (now points) (segment .start) (segment .end) (span .low) (span .high) ⌝ }
     requires { ⌜ Flags (now points) (now flags) ⌝ }
     requires { ⌜ Noted (now noted) (now flags) ⌝ }
-    ensures { λ _. ⌜ Decided (says4 (now (s .entry)) at segs len i segment) (now (points .entry)) (now (flags .entry)) (now (flags .exit)) low high ⌝ }
+    ensures { λ _. ⌜ Decided (says4 (now (s .entry)) (t .at) (t .segs) (t .len) i segment) (now (points .entry)) (now (flags .entry)) (now (flags .exit)) (span .low) (span .high) ⌝ }
     ensures { λ _. ⌜ Noted (now (noted .exit)) (now (flags .exit)) ⌝ }
 {
-    let mut j = low;
-    while j < high {
-        let end = lists_flags::block_end(j, high);
-        decide_block(s, at, segs, len, i, segment, points, flags, noted, j, end);
+    let mut j = span.low;
+    while j < span.high {
+        let end = lists_flags::block_end(j, span.high);
+        let block = Span { low: j, high: end };
+        decide_block(s, t, i, segment, points, flags, noted, block);
         j = end;
     }
 }
@@ -126,38 +117,24 @@ fn decide_blocks(
 // Segment i's word on the points that it holds and of which no later segment said anything.
 pub fn decide_segment(
     s: &[u8],
-    at: usize,
-    segs: usize,
-    len: usize,
+    t: Segments,
     i: usize,
     segment: Segment,
     points: &[u32],
     flags: &mut [u8],
     noted: &mut [u8; 256],
 )
-    requires { ⌜ Room4 (now s) at segs len ⌝ }
-    requires { ⌜ Read4 (now s) at segs i segment ⌝ }
-    requires { ⌜ i < segs ⌝ }
+    requires { ⌜ Room4 (now s) t ⌝ }
+    requires { ⌜ Read4 (now s) (t .at) (t .segs) i segment ⌝ }
+    requires { ⌜ i < t .segs ⌝ }
     requires { ⌜ Flags (now points) (now flags) ⌝ }
     requires { ⌜ Noted (now noted) (now flags) ⌝ }
-    ensures { λ _. ⌜ DecidedBy (holds4 segment) (says4 (now (s .entry)) at segs len i segment) (now (points .entry)) (now (flags .entry)) (now (flags .exit)) ⌝ }
+    ensures { λ _. ⌜ DecidedBy (holds4 segment) (says4 (now (s .entry)) (t .at) (t .segs) (t .len) i segment) (now (points .entry)) (now (flags .entry)) (now (flags .exit)) ⌝ }
     ensures { λ _. ⌜ Noted (now (noted .exit)) (now (flags .exit)) ⌝ }
 {
     let span = lists_spans::span_near(points, segment.start, segment.end, 0);
     if span.low < span.high {
-        decide_blocks(
-            s,
-            at,
-            segs,
-            len,
-            i,
-            segment,
-            points,
-            flags,
-            noted,
-            span.low,
-            span.high,
-        );
+        decide_blocks(s, t, i, segment, points, flags, noted, span);
     }
 }
 
@@ -174,20 +151,18 @@ fn flag_of(mapped: bool) -> u8
 // begin, which the walk hands on as `near`.
 fn mark_segment(
     s: &[u8],
-    at: usize,
-    segs: usize,
-    len: usize,
+    t: Segments,
     i: usize,
     segment: Segment,
     points: &[u32],
     flags: &mut [u8],
     near: usize,
 ) -> usize
-    requires { ⌜ Room4 (now s) at segs len ⌝ }
-    requires { ⌜ Read4 (now s) at segs i segment ⌝ }
-    requires { ⌜ i < segs ⌝ }
+    requires { ⌜ Room4 (now s) t ⌝ }
+    requires { ⌜ Read4 (now s) (t .at) (t .segs) i segment ⌝ }
+    requires { ⌜ i < t .segs ⌝ }
     requires { ⌜ Flags (now points) (now flags) ⌝ }
-    ensures { λ _. ⌜ now (flags .exit) ≡ painted (holds4 segment) (says4 (now (s .entry)) at segs len i segment) (now (points .entry)) (now (flags .entry)) ⌝ }
+    ensures { λ _. ⌜ now (flags .exit) ≡ painted (holds4 segment) (says4 (now (s .entry)) (t .at) (t .segs) (t .len) i segment) (now (points .entry)) (now (flags .entry)) ⌝ }
 {
     if lists_spans::is_passed(points, segment.start, segment.end, near) {
         return near;
@@ -196,7 +171,7 @@ fn mark_segment(
     let mut j = span.low;
     while j < span.high {
         let c = points[j];
-        flags[j] = flag_of(format4_segments::segment_maps(s, at, segs, len, i, segment, c));
+        flags[j] = flag_of(format4_segments::segment_maps(s, t, i, segment, c));
         j += 1;
     }
     span.high
@@ -208,31 +183,24 @@ fn in_order(segment: Segment, past: u32) -> bool {
 }
 
 // The walk over segments in order, from flags that are clear; false where it met one that is not in order, and the flags say nothing.
-fn mark_in_order(
-    s: &[u8],
-    at: usize,
-    segs: usize,
-    len: usize,
-    points: &[u32],
-    flags: &mut [u8],
-) -> bool
-    requires { ⌜ Room4 (now s) at segs len ⌝ }
+fn mark_in_order(s: &[u8], t: Segments, points: &[u32], flags: &mut [u8]) -> bool
+    requires { ⌜ Room4 (now s) t ⌝ }
     requires { ⌜ Flags (now points) (now flags) ⌝ }
     requires { ⌜ Cleared (length (now points)) (now flags) ⌝ }
-    ensures { λ r. ⌜ Walked r (maps4 (now (s .entry)) at segs len) (now (points .entry)) (now (flags .entry)) (now (flags .exit)) ⌝ }
+    ensures { λ r. ⌜ Walked r (maps4 (now (s .entry)) (t .at) (t .segs) (t .len)) (now (points .entry)) (now (flags .entry)) (now (flags .exit)) ⌝ }
 {
     let mut near = 0;
     let mut past = 0;
     let mut i = 0;
-    while i < segs {
-        let segment = format4_segments::segment_at(s, at, segs, i);
+    while i < t.segs {
+        let segment = format4_segments::segment_at(s, t, i);
         if segment.start == Segment::WALK_END {
             return true;
         }
         if !in_order(segment, past) {
             return false;
         }
-        near = mark_segment(s, at, segs, len, i, segment, points, flags, near);
+        near = mark_segment(s, t, i, segment, points, flags, near);
         past = segment.end;
         i += 1;
     }
@@ -240,26 +208,18 @@ fn mark_in_order(
 }
 
 // The walk from the last segment to the first, from flags that are clear and with nothing noted.
-fn mark_down_by(
-    s: &[u8],
-    at: usize,
-    segs: usize,
-    len: usize,
-    points: &[u32],
-    flags: &mut [u8],
-    noted: &mut [u8; 256],
-)
-    requires { ⌜ Room4 (now s) at segs len ⌝ }
+fn mark_down_by(s: &[u8], t: Segments, points: &[u32], flags: &mut [u8], noted: &mut [u8; 256])
+    requires { ⌜ Room4 (now s) t ⌝ }
     requires { ⌜ Flags (now points) (now flags) ⌝ }
     requires { ⌜ Cleared (length (now points)) (now flags) ⌝ }
     requires { ⌜ Noted (now noted) (now flags) ⌝ }
-    ensures { λ _. ⌜ Telling (maps4 (now (s .entry)) at segs len) (among4 (now (s .entry)) at segs len 0) (now (points .entry)) (now (flags .entry)) (now (flags .exit)) ⌝ }
+    ensures { λ _. ⌜ Telling (maps4 (now (s .entry)) (t .at) (t .segs) (t .len)) (among4 (now (s .entry)) (t .at) (t .segs) (t .len) 0) (now (points .entry)) (now (flags .entry)) (now (flags .exit)) ⌝ }
 {
-    let mut i = format4_segments::walk_end(s, at, segs);
+    let mut i = format4_segments::walk_end(s, t);
     while 0 < i {
-        let segment = format4_segments::segment_at(s, at, segs, i - 1);
-        decide_segment(s, at, segs, len, i - 1, segment, points, flags, noted);
         i -= 1;
+        let segment = format4_segments::segment_at(s, t, i);
+        decide_segment(s, t, i, segment, points, flags, noted);
     }
 }
 
@@ -276,44 +236,37 @@ fn settle(flags: &mut [u8], n: usize)
 }
 
 // The same for segments in any order, in a time that does not grow with how often points are held.
-fn mark_down(s: &[u8], at: usize, segs: usize, len: usize, points: &[u32], flags: &mut [u8])
-    requires { ⌜ Room4 (now s) at segs len ⌝ }
+fn mark_down(s: &[u8], t: Segments, points: &[u32], flags: &mut [u8])
+    requires { ⌜ Room4 (now s) t ⌝ }
     requires { ⌜ Flags (now points) (now flags) ⌝ }
     requires { ⌜ Cleared (length (now points)) (now flags) ⌝ }
-    ensures { λ _. ⌜ now (flags .exit) ≡ sets (now (flags .entry)) 0 (flagged (maps4 (now (s .entry)) at segs len) (now (points .entry))) ⌝ }
+    ensures { λ _. ⌜ now (flags .exit) ≡ sets (now (flags .entry)) 0 (flagged (maps4 (now (s .entry)) (t .at) (t .segs) (t .len)) (now (points .entry))) ⌝ }
 {
     let mut noted = [0u8; 256];
-    mark_down_by(s, at, segs, len, points, flags, &mut noted);
+    mark_down_by(s, t, points, flags, &mut noted);
     settle(flags, points.len());
 }
 
 // The walk over the segments, from flags that are clear.
-fn mark_segments(s: &[u8], at: usize, segs: usize, len: usize, points: &[u32], flags: &mut [u8])
-    requires { ⌜ Room4 (now s) at segs len ⌝ }
+fn mark_segments(s: &[u8], t: Segments, points: &[u32], flags: &mut [u8])
+    requires { ⌜ Room4 (now s) t ⌝ }
     requires { ⌜ Flags (now points) (now flags) ⌝ }
     requires { ⌜ Cleared (length (now points)) (now flags) ⌝ }
-    ensures { λ _. ⌜ now (flags .exit) ≡ sets (now (flags .entry)) 0 (flagged (maps4 (now (s .entry)) at segs len) (now (points .entry))) ⌝ }
+    ensures { λ _. ⌜ now (flags .exit) ≡ sets (now (flags .entry)) 0 (flagged (maps4 (now (s .entry)) (t .at) (t .segs) (t .len)) (now (points .entry))) ⌝ }
 {
-    if mark_in_order(s, at, segs, len, points, flags) {
+    if mark_in_order(s, t, points, flags) {
         return;
     }
     lists_flags::clear(flags, points.len());
-    mark_down(s, at, segs, len, points, flags);
+    mark_down(s, t, points, flags);
 }
 
 // Sets the flag of each point to whether the subtable maps it.
-pub fn collect_unicodes4(
-    s: &[u8],
-    at: usize,
-    segs: usize,
-    len: usize,
-    points: &[u32],
-    flags: &mut [u8],
-)
-    requires { ⌜ Room4 (now s) at segs len ⌝ }
+pub fn collect_unicodes4(s: &[u8], t: Segments, points: &[u32], flags: &mut [u8])
+    requires { ⌜ Room4 (now s) t ⌝ }
     requires { ⌜ Flags (now points) (now flags) ⌝ }
-    ensures { λ _. ⌜ now (flags .exit) ≡ sets (now (flags .entry)) 0 (flagged (maps4 (now (s .entry)) at segs len) (now (points .entry))) ⌝ }
+    ensures { λ _. ⌜ now (flags .exit) ≡ sets (now (flags .entry)) 0 (flagged (maps4 (now (s .entry)) (t .at) (t .segs) (t .len)) (now (points .entry))) ⌝ }
 {
     lists_flags::clear(flags, points.len());
-    mark_segments(s, at, segs, len, points, flags);
+    mark_segments(s, t, points, flags);
 }

@@ -1,6 +1,7 @@
 // The glyph that the format 4 or format 12 subtable at an offset gives for a code point, read from any bytes: the first segment or group that
 // reaches it is asked.
 use heads_lookup::Found;
+use source::Segments;
 ghost use mathlib.Core.Path.{_≡_};
 ghost use Prim.Native.Nat.{_≤_, _<_};
 ghost use Rattle.source.specs.Room.{Room4, Room12};
@@ -8,17 +9,17 @@ ghost use Rattle.heads_lookup.specs.Lookup.{inArray, inSegment, reaches, find4,
 ghost use Rattle.laws.specs.Search.{first};
 ghost use Rattle.source.specs.Fields.{endCode, endCharCode};
 
-// The array's answer at index `place - segments`.
-fn in_array(s: &[u8], at: usize, segments: usize, length: usize, place: usize, delta: u32) -> Found
-    requires { ⌜ Room4 (now s) at segments length ⌝ }
+// The array's answer at index `place - t.segs`.
+fn in_array(s: &[u8], t: Segments, place: usize, delta: u32) -> Found
+    requires { ⌜ Room4 (now s) t ⌝ }
     requires { ⌜ delta < 65536 ⌝ }
-    ensures { λ r. ⌜ r ≡ inArray (now (s .entry)) at segments length place delta ⌝ }
+    ensures { λ r. ⌜ r ≡ inArray (now (s .entry)) (t .at) (t .segs) (t .len) place delta ⌝ }
 {
-    if place < segments {
+    if place < t.segs {
         return Found::Nothing;
     }
-    if place - segments < (length - (16 + 8 * segments)) / 2 {
-        let entry = number::u16_at(s, at + 16 + 8 * segments + 2 * (place - segments));
+    if place - t.segs < (t.len - (16 + 8 * t.segs)) / 2 {
+        let entry = number::u16_at(s, t.at + 16 + 8 * t.segs + 2 * (place - t.segs));
         if entry == 0 {
             return Found::Glyph(0);
         }
@@ -28,14 +29,14 @@ fn in_array(s: &[u8], at: usize, segments: usize, length: usize, place: usize, d
 }
 
 // The answer of segment i.
-pub fn in_segment(s: &[u8], at: usize, segments: usize, length: usize, i: usize, c: u32) -> Found
-    requires { ⌜ Room4 (now s) at segments length ⌝ }
-    requires { ⌜ (i < segments) × (c ≤ 65535) ⌝ }
-    ensures { λ r. ⌜ r ≡ inSegment (now (s .entry)) at segments length i c ⌝ }
+pub fn in_segment(s: &[u8], t: Segments, i: usize, c: u32) -> Found
+    requires { ⌜ Room4 (now s) t ⌝ }
+    requires { ⌜ (i < t .segs) × (c ≤ 65535) ⌝ }
+    ensures { λ r. ⌜ r ≡ inSegment (now (s .entry)) (t .at) (t .segs) (t .len) i c ⌝ }
 {
-    let start_code = number::u16_at(s, at + 16 + 2 * segments + 2 * i);
-    let id_delta = number::u16_at(s, at + 16 + 4 * segments + 2 * i);
-    let id_range_offset = number::u16_at(s, at + 16 + 6 * segments + 2 * i);
+    let start_code = number::u16_at(s, t.at + 16 + 2 * t.segs + 2 * i);
+    let id_delta = number::u16_at(s, t.at + 16 + 4 * t.segs + 2 * i);
+    let id_range_offset = number::u16_at(s, t.at + 16 + 6 * t.segs + 2 * i);
     if c < start_code {
         return Found::Nothing;
     }
@@ -44,22 +45,20 @@ pub fn in_segment(s: &[u8], at: usize, segments: usize, length: usize, i: usize,
     }
     in_array(
         s,
-        at,
-        segments,
-        length,
+        t,
         (id_range_offset / 2 + (c - start_code)) as usize + i,
         id_delta,
     )
 }
 
-// The first segment whose end is at least c; `segments` where there is none.
-fn first_segment(s: &[u8], at: usize, segments: usize, length: usize, c: u32) -> usize
-    requires { ⌜ Room4 (now s) at segments length ⌝ }
-    ensures { λ r. ⌜ r ≡ first (reaches (endCode (now (s .entry)) at) c) segments 0 ⌝ }
+// The first segment whose end is at least c; `t.segs` where there is none.
+fn first_segment(s: &[u8], t: Segments, c: u32) -> usize
+    requires { ⌜ Room4 (now s) t ⌝ }
+    ensures { λ r. ⌜ r ≡ first (reaches (endCode (now (s .entry)) (t .at)) c) (t .segs) 0 ⌝ }
 {
     let mut i = 0;
-    while i < segments {
-        if c <= number::u16_at(s, at + 14 + 2 * i) {
+    while i < t.segs {
+        if c <= number::u16_at(s, t.at + 14 + 2 * i) {
             return i;
         }
         i += 1;
@@ -67,16 +66,16 @@ fn first_segment(s: &[u8], at: usize, segments: usize, length: usize, c: u32) ->
     i
 }
 
-fn find4_in(s: &[u8], at: usize, segments: usize, length: usize, c: u32) -> Found
-    requires { ⌜ Room4 (now s) at segments length ⌝ }
-    ensures { λ r. ⌜ r ≡ find4 (now (s .entry)) at segments length c ⌝ }
+fn find4_in(s: &[u8], t: Segments, c: u32) -> Found
+    requires { ⌜ Room4 (now s) t ⌝ }
+    ensures { λ r. ⌜ r ≡ find4 (now (s .entry)) (t .at) (t .segs) (t .len) c ⌝ }
 {
     if 0xFFFF < c {
         return Found::Nothing;
     }
-    let i = first_segment(s, at, segments, length, c);
-    if i < segments {
-        return in_segment(s, at, segments, length, i, c);
+    let i = first_segment(s, t, c);
+    if i < t.segs {
+        return in_segment(s, t, i, c);
     }
     Found::Nothing
 }
@@ -116,7 +115,14 @@ pub fn lookup4(s: &[u8], at: usize, c: u32) -> Found
             language: _,
             segments,
             length,
-        } => find4_in(s, at, segments, length, c),
+        } => {
+            let t = Segments {
+                at,
+                segs: segments,
+                len: length,
+            };
+            find4_in(s, t, c)
+        }
         source::Kind::Format12 {
             language: _,
             groups: _,

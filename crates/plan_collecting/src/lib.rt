@@ -1,5 +1,6 @@
 // Which of a rising list of points the subtable at an offset maps, and the listed pairs among them.
 use source::Kind;
+use source::Segments;
 ghost use mathlib.Core.Path.{_≡_};
 ghost use lib.ListN.{length};
 ghost use lib.Seq.{sets};
@@ -17,7 +18,14 @@ fn collect_unicodes(s: &[u8], at: usize, kind: Kind, n: u32, points: &[u32], fla
             language: _,
             segments,
             length,
-        } => format4_collect::collect_unicodes4(s, at, segments, length, points, flags),
+        } => {
+            let t = Segments {
+                at,
+                segs: segments,
+                len: length,
+            };
+            format4_collect::collect_unicodes4(s, t, points, flags)
+        }
         Kind::Format12 {
             language: _,
             groups,

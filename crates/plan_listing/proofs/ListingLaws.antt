@@ -28,7 +28,7 @@ use Rattle.plan_listing.specs.Listing.{mapsAs, maps, listed, codesOf, gl
 -- ---- by kind
 
 module _ (kind : Kind) (xs : List ℕ) (at n : ℕ) (ps fs : List ℕ) (a : Asked kind xs at n ps fs) where
-  pub asked4 : {l s len : ℕ} → Bytes xs → kind ≡ Format4 l s len → Room4 xs at s len × Flags ps fs
+  pub asked4 : {l s len : ℕ} → Bytes xs → kind ≡ Format4 l s len → Room4 xs (record { at = at; segs = s; len = len }) × Flags ps fs
   asked4 b e = (room4 xs at b (sym (a .found) ∙ e), a .flagged)
 
   pub asked12 : {l g len : ℕ} → kind ≡ Format12 l g len → Room12 xs at g × ((n < 65536) × Flags ps fs)

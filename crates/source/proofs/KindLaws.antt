@@ -171,7 +171,7 @@ module _ (xs : List ℕ) (at : ℕ) where
 
   -- ---- the kind gives the room
 
-  pub room4 : {l s len : ℕ} → Bytes xs → kindAt xs at ≡ Format4 l s len → Room4 xs at s len
+  pub room4 : {l s len : ℕ} → Bytes xs → kindAt xs at ≡ Format4 l s len → Room4 xs (record { at = at; segs = s; len = len })
   room4 b e =
       let g = tells4 e in
       record { room = g .room; fits = g .fits; small = rw (g .long) (be-lt 2 xs (at + 2) b) }

@@ -24,6 +24,13 @@ pub enum Kind {
     Unreadable,
 }
 
+// A readable format 4 subtable: where it stands in the source, how many segments it has, and how many bytes.
+pub struct Segments {
+    pub at: usize,
+    pub segs: usize,
+    pub len: usize,
+}
+
 // How many bytes the source has from `at` on.
 fn bytes_from(s: &[u8], at: usize) -> usize
     ensures { λ r. ⌜ r ≡ length (now (s .entry)) - at ⌝ }

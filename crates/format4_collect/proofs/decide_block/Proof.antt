@@ -1,5 +1,5 @@
 -- A block that is noted needs nothing; one that is decided whole may be noted.
-use Rattle.format4_collect.proofs.DownwardLaws.{noting}
+use Rattle.format4_collect.proofs.DownwardLaws.{noted-skip, noted-more, noted-kept}
 use native.Mathlib.Omega.{arith}
 use borrow.Author.Needs.{needs}
 use Rattle.format4_collect.proofs.decide_block.Statement.{statement}
@@ -9,7 +9,7 @@ element-copy-out-if1 : tie.Need-element-copy-out-if1
 element-copy-out-if1 c = search needs
 
 returns : tie.Need-returns
-returns c = (search noting, search needs)
+returns c = (search noted-skip, search needs)
 
 decide-points-requires : tie.Need-decide-points-requires
 decide-points-requires c κs = (search needs, (search needs, ((omega arith, omega arith), (search needs, search needs))))
@@ -24,13 +24,13 @@ same-length : tie.Need-same-length
 same-length c = search needs
 
 returns-2 : tie.Need-returns-2
-returns-2 c = (search needs, search noting)
+returns-2 c = (search needs, search noted-more)
 
 same-length-2 : tie.Need-same-length-2
 same-length-2 c = search needs
 
 returns-3 : tie.Need-returns-3
-returns-3 c = (search needs, search noting)
+returns-3 c = (search needs, search noted-kept)
 
 pub decide-block-spec : {M : Type 1} → statement M
 decide-block-spec =

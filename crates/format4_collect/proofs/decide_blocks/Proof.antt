@@ -9,10 +9,10 @@ use Rattle.format4_collect.proofs.decide_blocks.Statement.{statement}
 use Rattle.format4_collect.proofs.decide_blocks.Tie as tie
 
 abbrev Inv-loop : tie.InvT-loop
-Inv-loop s at segs len i segment points flags₀ noted₀ low high j₀ flags noted j = Decided (says4 s at segs len i segment) points flags₀ flags low j × Noted noted flags × (j ≤ high)
+Inv-loop s t i segment points flags₀ noted₀ span j₀ flags noted j = Decided (says4 s (t .at) (t .segs) (t .len) i segment) points flags₀ flags (span .low) j × Noted noted flags × (j ≤ span .high)
 
 abbrev μ-loop : tie.MeasureT-loop
-μ-loop s at segs len i segment points flags₀ noted₀ low high j₀ flags noted j = high - j
+μ-loop s t i segment points flags₀ noted₀ span j₀ flags noted j = span .high - j
 
 loop-holds : tie.Need-loop-holds Inv-loop μ-loop
 loop-holds c = (search deciding, search needs, omega arith)

@@ -9,10 +9,10 @@ use Rattle.format4_collect.proofs.decide_points.Statement.{statement}
 use Rattle.format4_collect.proofs.decide_points.Tie as tie
 
 abbrev Inv-loop : tie.InvT-loop
-Inv-loop s at segs len i segment points flags₀ low high j₀ flags j = Decided (says4 s at segs len i segment) points flags₀ flags low j × (j ≤ high)
+Inv-loop s t i segment points flags₀ span j₀ flags j = Decided (says4 s (t .at) (t .segs) (t .len) i segment) points flags₀ flags (span .low) j × (j ≤ span .high)
 
 abbrev μ-loop : tie.MeasureT-loop
-μ-loop s at segs len i segment points flags₀ low high j₀ flags j = high - j
+μ-loop s t i segment points flags₀ span j₀ flags j = span .high - j
 
 loop-holds : tie.Need-loop-holds Inv-loop μ-loop
 loop-holds c = (search deciding, omega arith)

@@ -6,10 +6,10 @@ use Rattle.format4_collect.proofs.mark_down_by.Statement.{statement}
 use Rattle.format4_collect.proofs.mark_down_by.Tie as tie
 
 abbrev Inv-loop : tie.InvT-loop
-Inv-loop s at segs len points flags₀ noted₀ i₀ flags noted i = Downing s at segs len noted points flags₀ flags i
+Inv-loop s t points flags₀ noted₀ i₀ flags noted i = Downing s (t .at) (t .segs) (t .len) noted points flags₀ flags i
 
 abbrev μ-loop : tie.MeasureT-loop
-μ-loop s at segs len points flags₀ noted₀ i₀ flags noted i = i
+μ-loop s t points flags₀ noted₀ i₀ flags noted i = i
 
 walk-end-requires : tie.Need-walk-end-requires Inv-loop μ-loop
 walk-end-requires c κs = search needs
@@ -17,26 +17,20 @@ walk-end-requires c κs = search needs
 loop-holds : tie.Need-loop-holds Inv-loop μ-loop
 loop-holds c = search downing
 
-sub-segment-at : tie.Need-sub-segment-at Inv-loop μ-loop
-sub-segment-at c = search needs
+sub-i : tie.Need-sub-i Inv-loop μ-loop
+sub-i c = search needs
 
 segment-at-requires : tie.Need-segment-at-requires Inv-loop μ-loop
 segment-at-requires c κs = search needs
 
-sub-decide-segment : tie.Need-sub-decide-segment Inv-loop μ-loop
-sub-decide-segment c = search needs
-
 decide-segment-requires : tie.Need-decide-segment-requires Inv-loop μ-loop
 decide-segment-requires c κs = (search needs, (search needs, (omega arith, (search flags-down, search needs))))
-
-sub-i : tie.Need-sub-i Inv-loop μ-loop
-sub-i c = search needs
 
 loop-less : tie.Need-loop-less Inv-loop μ-loop
 loop-less c = search needs
 
 loop-again : tie.Need-loop-again Inv-loop μ-loop
-loop-again c = downing-on _ _ _ _ _ _ _ _ _ _ _ _ (c .before .before .before .before .before .before .before .loop .inv) (c .before .before .before .before .before .before .loop-test .taken) (c .before .before .before .before .before .segment-at .ensures) (c .before .before .decide-segment .ensures .0) (c .before .before .decide-segment .ensures .1)
+loop-again c = search downing-on
 
 same-length : tie.Need-same-length Inv-loop μ-loop
 same-length c = search needs
@@ -52,11 +46,9 @@ mark-down-by-spec =
     μ-loop
     walk-end-requires
     loop-holds
-    sub-segment-at
-    segment-at-requires
-    sub-decide-segment
-    decide-segment-requires
     sub-i
+    segment-at-requires
+    decide-segment-requires
     loop-less
     loop-again
     same-length

@@ -6,10 +6,10 @@ use Rattle.format4_collect.proofs.mark_in_order.Statement.{statement}
 use Rattle.format4_collect.proofs.mark_in_order.Tie as tie
 
 abbrev Inv-loop : tie.InvT-loop
-Inv-loop s at segs len points flags₀ near₀ past₀ i₀ flags near past i = Collecting s at segs len points flags₀ flags i
+Inv-loop s t points flags₀ near₀ past₀ i₀ flags near past i = Collecting s (t .at) (t .segs) (t .len) points flags₀ flags i
 
 abbrev μ-loop : tie.MeasureT-loop
-μ-loop s at segs len points flags₀ near₀ past₀ i₀ flags near past i = segs - i
+μ-loop s t points flags₀ near₀ past₀ i₀ flags near past i = t .segs - i
 
 loop-holds : tie.Need-loop-holds Inv-loop μ-loop
 loop-holds c = search collecting

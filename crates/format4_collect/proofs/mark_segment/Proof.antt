@@ -8,10 +8,10 @@ use Rattle.format4_collect.proofs.mark_segment.Statement.{statement}
 use Rattle.format4_collect.proofs.mark_segment.Tie as tie
 
 abbrev Inv-loop : tie.InvT-loop
-Inv-loop s at segs len i segment points flags₀ near span j₀ flags j = Painting (says4 s at segs len i segment) points flags₀ flags (span .low) (span .high) j
+Inv-loop s t i segment points flags₀ near span j₀ flags j = Painting (says4 s (t .at) (t .segs) (t .len) i segment) points flags₀ flags (span .low) (span .high) j
 
 abbrev μ-loop : tie.MeasureT-loop
-μ-loop s at segs len i segment points flags₀ near span j₀ flags j = span .high - j
+μ-loop s t i segment points flags₀ near span j₀ flags j = span .high - j
 
 is-passed-requires : tie.Need-is-passed-requires Inv-loop μ-loop
 is-passed-requires c κs = search needs

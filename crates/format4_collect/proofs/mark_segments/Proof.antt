@@ -1,6 +1,5 @@
 -- The walk in order says all, or the flags are cleared again and the walk down does.
-use Rattle.lists_marks.proofs.MarksLaws.{cleared}
-use Rattle.format4_collect.proofs.CollectLaws.{walked}
+use Rattle.format4_collect.proofs.CollectLaws.{walked, walked-clear}
 use borrow.Author.Needs.{needs}
 use Rattle.format4_collect.proofs.mark_segments.Statement.{statement}
 use Rattle.format4_collect.proofs.mark_segments.Tie as tie
@@ -18,7 +17,7 @@ clear-requires : tie.Need-clear-requires
 clear-requires c κs = search needs
 
 mark-down-requires : tie.Need-mark-down-requires
-mark-down-requires c κs = (search needs, (search needs, cleared _ _ _ (c .before .before .before .clear .ensures)))
+mark-down-requires c κs = (search needs, (search needs, search walked-clear))
 
 same-length-2 : tie.Need-same-length-2
 same-length-2 c = search needs

@@ -32,7 +32,7 @@ entry-requires c κs = search needs
 
 returns-2 : tie.Need-returns-2
 unfolding says4
-returns-2 c = else-eq _ _ _ _ (λ e. c .before .before .before .if1 .left (omega arith)) (ap (ltb 0) (c .entry .ensures))
+returns-2 c = else-eq _ _ _ _ (search needs) (ap (ltb 0) (c .entry .ensures))
 
 pub segment-maps-spec : {M : Type 1} → statement M
 segment-maps-spec =

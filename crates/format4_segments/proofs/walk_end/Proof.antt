@@ -9,10 +9,10 @@ use Rattle.format4_segments.proofs.walk_end.Statement.{statement}
 use Rattle.format4_segments.proofs.walk_end.Tie as tie
 
 abbrev Inv-loop : tie.InvT-loop
-Inv-loop s at segs i₀ i = Looking (stops4 s at segs) segs i
+Inv-loop s t i₀ i = Looking (stops4 s (t .at) (t .segs)) (t .segs) i
 
 abbrev μ-loop : tie.MeasureT-loop
-μ-loop s at segs i₀ i = segs - i
+μ-loop s t i₀ i = t .segs - i
 
 loop-holds : tie.Need-loop-holds Inv-loop μ-loop
 loop-holds c = search stopping

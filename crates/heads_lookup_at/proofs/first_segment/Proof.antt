@@ -9,10 +9,10 @@ use Rattle.heads_lookup_at.proofs.first_segment.Statement.{statement}
 use Rattle.heads_lookup_at.proofs.first_segment.Tie as tie
 
 abbrev Inv-loop : tie.InvT-loop
-Inv-loop s at segments length c i₀ i = Looking (reaches (endCode s at) c) segments i
+Inv-loop s t c i₀ i = Looking (reaches (endCode s (t .at)) c) (t .segs) i
 
 abbrev μ-loop : tie.MeasureT-loop
-μ-loop s at segments length c i₀ i = segments - i
+μ-loop s t c i₀ i = t .segs - i
 
 loop-holds : tie.Need-loop-holds Inv-loop μ-loop
 loop-holds c = search reaching

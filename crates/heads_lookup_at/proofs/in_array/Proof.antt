@@ -42,8 +42,8 @@ returns-2 : tie.Need-returns-2
 unfolding inArray
 returns-2 c = else-lt _ _ _ _ (omega arith) (if-lt _ _ _ _ (omega arith) (if-eq _ _ _ _ (omega arith) refl))
 
-add-t21 : tie.Need-add-t21
-add-t21 c = omega arith
+add-t19 : tie.Need-add-t19
+add-t19 c = omega arith
 
 returns-3 : tie.Need-returns-3
 unfolding inArray
@@ -68,6 +68,6 @@ in-array-spec =
     add-u16-at-3
     u16-at-requires
     returns-2
-    add-t21
+    add-t19
     returns-3
     returns-4)

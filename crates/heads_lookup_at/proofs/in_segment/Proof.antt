@@ -65,8 +65,8 @@ returns : tie.Need-returns
 unfolding inSegment
 returns c = if-lt _ _ _ _ (omega arith) refl
 
-add-t16 : tie.Need-add-t16
-add-t16 c = omega arith
+add-t14 : tie.Need-add-t14
+add-t14 c = omega arith
 
 returns-2 : tie.Need-returns-2
 returns-2 c = search segment-answers
@@ -109,7 +109,7 @@ in-segment-spec =
     add-u16-at-9
     u16-at-requires-3
     returns
-    add-t16
+    add-t14
     returns-2
     add-in-array
     cast-in-array
