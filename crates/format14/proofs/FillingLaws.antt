@@ -23,10 +23,10 @@ pub record Filling (f : ℕ → List ℕ) (m stop : ℕ) (out₀ : List ℕ) (k 
   pub is : out ≡ sets out₀ (stop - tail) (concat (Written f m k))
 
 module _ (f : ℕ → List ℕ) (m stop : ℕ) (out₀ : List ℕ) where
-  pub filling-start : Filling f m stop out₀ m out₀ 0
+  pub filling-start : (k : ℕ) → k ≡ m → Filling f m stop out₀ k out₀ 0
   unfolding from lasts concat
-  filling-start =
-      let e : m - m ≡ 0 = omega arith in
+  filling-start k s =
+      let e : m - k ≡ 0 = omega arith in
       record { within = omega arith; same = refl; total = rw e; is = rw e }
 
   module _ (k : ℕ) (out : List ℕ) (tail : ℕ) (ends : List ℕ) (p : Filling f m stop out₀ k out tail) (e : Ends f m ends) (h : 0 < k) where

@@ -1,7 +1,7 @@
 -- The whole subtable: its length, its outcome, and its bytes one after the other.
 use Prim.Native.Nat.{ℕ, _+_, _-_, _*_, _<_, _≤_}
 use mathlib.Core.Path.{_≡_, refl, sym, ap, _∙_}
-use mathlib.Core.List.{List, [], _∷_, _++_}
+use mathlib.Core.List.{List, [], _∷_, _++_, append-assoc}
 use mathlib.Core.Bool.{Bool}
 use native.Mathlib.Omega.{arith}
 use lib.Dec.{eqb}
@@ -25,7 +25,7 @@ use Rattle.format14.specs.declared.Outcome.{Outcome}
 use Rattle.format14.specs.declared.Outcome.the-variants.{Refused8, Empty, Length}
 use Rattle.format14.specs.Format14.{Row, rows, written, lengthOf, rowBytes, header, format14, offsetOf, sizeOf, outcome, lengthIn}
 use Rattle.format14.specs.Ends.{Written, Ends, Total}
-use Rattle.format14.specs.Parts.{outcomeFrom, endsAt}
+use Rattle.format14.specs.Parts.{outcomeFrom, Stops, endsAt}
 use Rattle.format14.proofs.RowsLaws.{written-rows, length-rows, flat-rows}
 use Rattle.format14.proofs.ShortLaws.{rows-short}
 
@@ -49,98 +49,120 @@ size-some (r ∷ rs) h = refl
 pub row-size : (rs : List Row) (r : Row) → length (rowBytes rs r) ≡ 11
 row-size rs r = rw (length-append, length-append, length-enc 3 (r .selector), length-enc 4 (offsetOf rs (r .defaultUVS)), length-enc 4 (offsetOf rs (r .nonDefaultUVS)))
 
--- ---- from the distances of the tables and the number of records that have one
+-- ---- header and records
 
-module _ (xs : List ℕ) (at len : ℕ) (kept map requested : List ℕ) (n : ℕ) (ends : List ℕ) (count : ℕ) (r : Readable xs at len kept requested) (u : Num 4 xs (at + 6) n)
-    (c : count ≡ length (usedRecords ends n)) where
+length-front : (xs : List ℕ) (at total : ℕ) (ends : List ℕ) (n : ℕ)
+    → length (header14 total (length (usedRecords ends n)) ++ flat (recordAt xs at total ends) (usedRecords ends n)) ≡ 10 + 11 * length (usedRecords ends n)
+length-front xs at total ends n = rw (length-append, length-header total (length (usedRecords ends n)), records-size xs at total ends n [] 0)
+
+-- n is the code's own number of records, count its number of those that have a table
+module _ (xs : List ℕ) (at total : ℕ) (ends : List ℕ) (n : ℕ) (u : Num 4 xs (at + 6) n) where
+  pub distances-here : Distances (be 4 xs (at + 6)) total ends → Distances n total ends
+  distances-here d = rw (u .is) d
+
+  pub room-here : (place : ℕ) (out : List ℕ) → place + 10 + 11 * length (usedRecords ends (be 4 xs (at + 6))) ≤ length out → (mid : List ℕ) → length mid ≡ length out
+      → place + 10 + 11 * length (usedRecords ends n) ≤ length mid
+  room-here place out h mid e = rw (u .is, e) h
+
+  module _ (count place : ℕ) (out mid : List ℕ) (e₁ : mid ≡ sets out place (header14 total count)) where
+    pub front-is : count ≡ length (usedRecords ends n) → (fin : List ℕ) → fin ≡ sets mid (place + 10) (flat (recordAt xs at total ends) (usedRecords ends n))
+        → fin ≡ sets out place (header14 total (length (usedRecords ends (be 4 xs (at + 6)))) ++ flat (recordAt xs at total ends) (usedRecords ends (be 4 xs (at + 6))))
+    front-is c fin e₂ =
+        let hs = header14 total (length (usedRecords ends n)) in
+        let rs = flat (recordAt xs at total ends) (usedRecords ends n) in
+        let here : place + 10 ≡ place + length hs = omega (arith, length-header total (length (usedRecords ends n))) in
+        let both : fin ≡ sets out place (hs ++ rs) = rw (e₂, e₁, c, here) (sets-append out place hs rs) in
+        rw (u .is) at both
+
+-- ---- from the distances of the tables
+
+module _ (xs : List ℕ) (at len : ℕ) (kept map requested ends : List ℕ) (r : Readable xs at len kept requested) where
   abbrev g : Given
   g = given xs at len kept map requested
+
+  abbrev selectors : List ℕ
+  selectors = usedRecords ends (be 4 xs (at + 6))
+
+  abbrev last : List ℕ
+  last = concat (Written (slot g) (2 * be 4 xs (at + 6)) 0)
 
   short : lengthOf (rows g) < 2147483648
   short = rows-short g (record { few = r .few; short = omega (arith, r .inside, r .small); kept-few = r .kept-few })
 
-  count-rows : Ends (slot g) (2 * be 4 xs (at + 6)) ends → count ≡ length (rows g)
-  count-rows e = rw (u .is) at c ∙ length-rows g ends e
+  module _ (e : Ends (slot g) (2 * be 4 xs (at + 6)) ends) where
+    count-rows : length selectors ≡ length (rows g)
+    count-rows = length-rows g ends e
 
-  total-rows : Ends (slot g) (2 * be 4 xs (at + 6)) ends → 10 + 11 * count + length (concat (Written (slot g) (2 * n) 0)) ≡ lengthOf (rows g)
-  total-rows e =
-      let rest = written-rows g in
-      rw (count-rows e, rest, u .is)
+    total-rows : 10 + 11 * length selectors + length last ≡ lengthOf (rows g)
+    total-rows =
+        let rest = written-rows g in
+        rw (count-rows, rest)
 
-  -- ---- the outcome
+    -- ---- the outcome, from the number of records that have a table
 
-  module _ (tail : ℕ) (refused : Bool) (e : Ends (slot g) (2 * n) ends) (t : Total (slot g) (2 * n) tail) (b : refused ≡ namesMissing g) where
-    pub all-ends : Ends (slot g) (2 * be 4 xs (at + 6)) ends
-    all-ends = rw (u .is) at e
+    module _ (n count tail : ℕ) (refused : Bool) (u : Num 4 xs (at + 6) n) (c : count ≡ length (usedRecords ends n)) (t : Total (slot g) (2 * be 4 xs (at + 6)) tail) (b : refused ≡ namesMissing g) where
+      count-is : count ≡ length (rows g)
+      count-is = rw (u .is) at c ∙ count-rows
 
-    total-is : 10 + 11 * count + tail ≡ lengthOf (rows g)
-    total-is = rw (t .is) (total-rows all-ends)
+      total-is : 10 + 11 * count + tail ≡ lengthOf (rows g)
+      total-is = omega (arith, t .is, rw (u .is) at c, total-rows)
 
-    size-is : pick (eqb count 0) Empty (Length (10 + 11 * count + tail)) ≡ sizeOf (rows g)
-    size-is =
-        by-test (pick (eqb count 0) Empty (Length (10 + 11 * count + tail)) ≡ sizeOf (rows g)) (eqb count 0)
-        (λ z. rw z (sym (size-none (rows g) (sym (count-rows all-ends) ∙ eqb-true count 0 z))))
-        (λ z. rw z (ap Length total-is ∙ sym (size-some (rows g) (λ d. eqb-false count 0 z (count-rows all-ends ∙ d)))))
+      size-is : pick (eqb count 0) Empty (Length (10 + 11 * count + tail)) ≡ sizeOf (rows g)
+      size-is =
+          by-test (pick (eqb count 0) Empty (Length (10 + 11 * count + tail)) ≡ sizeOf (rows g)) (eqb count 0)
+          (λ z. rw z (sym (size-none (rows g) (sym count-is ∙ eqb-true count 0 z))))
+          (λ z. rw z (ap Length total-is ∙ sym (size-some (rows g) (λ d. eqb-false count 0 z (count-is ∙ d)))))
 
-    module _ (o : Outcome) (d : o ≡ outcomeFrom refused count (10 + 11 * count + tail)) where
-      pub outcome-is : o ≡ outcome g
-      unfolding outcomeFrom outcome
-      outcome-is = d ∙ rw (b, size-is)
+      module _ (o : Outcome) (d : o ≡ outcomeFrom refused count (10 + 11 * count + tail)) where
+        pub outcome-is : o ≡ outcome g
+        unfolding outcomeFrom outcome
+        outcome-is = d ∙ rw (b, size-is)
 
-      pub outcome-short : lengthIn o < 4294967296
-      unfolding outcomeFrom
-      outcome-short =
-          rw d
-          (by-pick (λ (x : Outcome). lengthIn x < 4294967296) refused Refused8 (pick (eqb count 0) Empty (Length (10 + 11 * count + tail)))
-          (λ _. omega arith)
-          (λ _. by-pick (λ (x : Outcome). lengthIn x < 4294967296) (eqb count 0) Empty (Length (10 + 11 * count + tail)) (λ _. omega arith) (λ _. omega (arith, total-is, short))))
+        pub outcome-short : lengthIn o < 4294967296
+        unfolding outcomeFrom
+        outcome-short =
+            rw d
+            (by-pick (λ (x : Outcome). lengthIn x < 4294967296) refused Refused8 (pick (eqb count 0) Empty (Length (10 + 11 * count + tail)))
+            (λ _. omega arith)
+            (λ _. by-pick (λ (x : Outcome). lengthIn x < 4294967296) (eqb count 0) Empty (Length (10 + 11 * count + tail)) (λ _. omega arith) (λ _. omega (arith, total-is, short))))
 
-  -- ---- the bytes
+    -- ---- the bytes
 
-  module _ (total : ℕ) (e : Ends (slot g) (2 * be 4 xs (at + 6)) ends) (t : total ≡ lengthOf (rows g)) where
-    sum : 10 + 11 * count + length (concat (Written (slot g) (2 * n) 0)) ≡ total
-    sum = total-rows e ∙ sym t
+    module _ (total : ℕ) (t : total ≡ lengthOf (rows g)) where
+      sum : 10 + 11 * length selectors + length last ≡ total
+      sum = total-rows ∙ sym t
 
-    pub total-fits : total < 4294967296
-    total-fits = omega (arith, t, short)
+      -- every distance lies inside
+      pub distances : Distances (be 4 xs (at + 6)) total ends
+      distances = record {
+        room = e .room;
+        inside = λ k l. rw (e .each k l) (omega (arith, behind-le (slot g k) (Written (slot g) (2 * be 4 xs (at + 6)) 0), sum));
+        fits = omega (arith, t, short);
+      }
 
-    pub ends-here : Ends (slot g) (2 * n) ends
-    ends-here = rw (u .is) e
+      bytes-are : header14 total (length selectors) ++ (flat (recordAt xs at total ends) selectors ++ last) ≡ format14 (rows g)
+      unfolding format14 header14
+      bytes-are =
+          let records = flat-rows g ends e in
+          let rest = written-rows g in
+          rw (t, count-rows, records, rest)
 
-    pub tables-room : (place : ℕ) → length (concat (Written (slot g) (2 * n) 0)) ≤ place + total
-    tables-room place = omega (arith, sum)
+      -- the tables stand behind the header and the records
+      module _ (out : List ℕ) (place : ℕ) (room : place + total ≤ length out) where
+        pub records-room : place + 10 + 11 * length selectors ≤ length out
+        records-room = omega (arith, sum)
 
-    -- every distance lies inside
-    pub distances : Distances n total ends
-    distances = record {
-      room = ends-here .room;
-      inside = λ k l. rw (ends-here .each k l) (omega (arith, behind-le (slot g k) (Written (slot g) (2 * n) 0), sum));
-      fits = total-fits;
-    }
+        module _ (mid : List ℕ) (e₁ : mid ≡ sets out place (header14 total (length selectors) ++ flat (recordAt xs at total ends) selectors)) where
+          pub tables-stop : Stops (slot g) (2 * be 4 xs (at + 6)) (place + total) mid
+          tables-stop = record { room = omega (arith, sum); within = rw (e₁, length-sets) room }
 
-    bytes-are : header14 total count ++ (flat (recordAt xs at total ends) (usedRecords ends n) ++ concat (Written (slot g) (2 * n) 0)) ≡ format14 (rows g)
-    unfolding format14 header14
-    bytes-are =
-        let records = flat-rows g ends e in
-        let last = written-rows g in
-        rw (t, count-rows e, u .is, records, last)
-
-    -- header, records and tables, each behind the one before
-    module _ (out : List ℕ) (place : ℕ) (room : place + total ≤ length out) (mid : List ℕ) (e₁ : mid ≡ sets out place (header14 total count)) where
-      pub records-room : place + 10 + 11 * length (usedRecords ends n) ≤ length mid
-      records-room = rw (e₁, length-sets) (omega (arith, sum, c))
-
-      module _ (two : List ℕ) (e₂ : two ≡ sets mid (place + 10) (flat (recordAt xs at total ends) (usedRecords ends n))) where
-        pub whole : (fin : List ℕ) → fin ≡ endsAt (place + total) two (concat (Written (slot g) (2 * n) 0)) → fin ≡ sets out place (format14 (rows g))
-        whole fin e₃ =
-            let hs = header14 total count in
-            let rs = flat (recordAt xs at total ends) (usedRecords ends n) in
-            let ts = concat (Written (slot g) (2 * n) 0) in
-            let first : length hs ≡ 10 = length-header total count in
-            let size : length rs ≡ 11 * length (usedRecords ends n) = records-size xs at total ends n out 0 in
-            let here : place + 10 ≡ place + length hs = omega (arith, first) in
-            let there : place + total - length ts ≡ place + 10 + length rs = omega (arith, size, sum, c) in
-            e₃ ∙ rw (there, e₂, sets-append mid (place + 10) rs ts, e₁, here, sets-append out place hs (rs ++ ts)) (ap (sets out place) bytes-are)
+          pub whole : (fin : List ℕ) → fin ≡ endsAt (place + total) mid last → fin ≡ sets out place (format14 (rows g))
+          whole fin e₂ =
+              let hs = header14 total (length selectors) in
+              let rs = flat (recordAt xs at total ends) selectors in
+              let size : length (hs ++ rs) ≡ 10 + 11 * length selectors = length-front xs at total ends (be 4 xs (at + 6)) in
+              let there : place + total - length last ≡ place + length (hs ++ rs) = omega (arith, size, sum) in
+              e₂ ∙ rw (there, e₁, sets-append out place (hs ++ rs) last, append-assoc hs rs last) (ap (sets out place) bytes-are)
 
 -- ---- the length covers all
 

@@ -53,12 +53,6 @@ pub record Numbered (xs : List ℕ) (at : ℕ) (kept flags : List ℕ) (t : ℕ)
   pub below : t < 2 * be 4 xs (at + 6)
   pub beside : length kept ≤ length flags
 
--- m is the number of all tables, and each kept point has a flag in both rows of flags
-pub record All (xs : List ℕ) (at : ℕ) (kept flags : List ℕ) (m : ℕ) (others : List ℕ) : Type 0 where
-  pub is : m ≡ 2 * be 4 xs (at + 6)
-  pub beside : length kept ≤ length flags
-  pub also : length kept ≤ length others
-
 -- what the length of a new table cannot exceed
 abbrev pub tableMax : ℕ
 tableMax = 1048576

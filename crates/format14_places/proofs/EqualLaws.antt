@@ -1,5 +1,5 @@
 -- Equal tables: what lengths and checksums rule out.
-use Prim.Native.Nat.{ℕ, _+_, _*_, _%_, _<_}
+use Prim.Native.Nat.{ℕ, _+_, _%_, _<_, _≤_}
 use mathlib.Core.Path.{_≡_, sym, _∙_}
 use mathlib.Core.List.{List}
 use mathlib.Core.Bool.{Bool, true, false}
@@ -11,10 +11,11 @@ use Rattle.laws.specs.Select.{eqList}
 use Rattle.laws.specs.Choice.{both}
 use Rattle.laws.proofs.ChoiceLaws.{false-true, both-left, by-test}
 use Rattle.laws.proofs.LastsLaws.{eqList-length}
-use Rattle.number.specs.BigEndian.{be}
+use Rattle.laws.proofs.SearchLaws.{Seeking, looking-found, looking-none}
 use Rattle.format14_uvs.proofs.ChecksumLaws.{sums-apart}
 use Rattle.format14.specs.Selectors.{Given, given}
-use Rattle.format14.specs.ByNumber.{slot, Readable, All, Lengths, Sums, Both}
+use Rattle.format14.specs.ByNumber.{slot, Readable, Lengths, Sums, Both}
+use Rattle.format14.specs.Ends.{laterEqual}
 use Rattle.format14.proofs.ByNumberLaws.{same-unlike}
 
 both-holds : (a b : Bool) → a ≡ true → b ≡ true → both a b ≡ true
@@ -58,11 +59,12 @@ module _ (xs : List ℕ) (at len : ℕ) (kept map requested : List ℕ) (n t j :
       let same = both-left (eqb (getD ls t 0) (getD ls j 0)) (eqb (getD ss t 0) (getD ss j 0)) (sym d ∙ e) in
       both-there (given xs at len kept map requested) n t j ls p a c l (eqb-true (getD ls t 0) (getD ls j 0) same)
 
--- m tables are all there are
-pub all-lengths : (f : ℕ → List ℕ) (xs : List ℕ) (at : ℕ) (kept flags : List ℕ) (m : ℕ) (others ls : List ℕ) → All xs at kept flags m others → Lengths f m ls → Lengths f (2 * be 4 xs (at + 6)) ls
-all-lengths f xs at kept flags m others ls a q = rw (a .is) at q
+-- the search among m tables, which are all n
+module _ (f : ℕ → List ℕ) (m n t j : ℕ) (e : m ≡ n) (l : Seeking (λ i. eqList (f t) (f i)) m (t + 1) j) where
+  pub later-found : (b : Bool) → j < m → b ≡ eqList (f t) (f j) → b ≡ true → j ≡ laterEqual f n t
+  later-found b h q y = rw (← e) (looking-found l h (sym q ∙ y))
 
-pub all-sums : (f : ℕ → List ℕ) (xs : List ℕ) (at : ℕ) (kept flags : List ℕ) (m : ℕ) (others ss : List ℕ) → All xs at kept flags m others → Sums f m ss → Sums f (2 * be 4 xs (at + 6)) ss
-all-sums f xs at kept flags m others ss a q = rw (a .is) at q
+  pub later-none : m ≤ j → j ≡ laterEqual f n t
+  later-none h = rw (← e) (looking-none l h)
 
-pub ruleset alls = (all-lengths, all-sums)
+pub ruleset later-equals = (later-found, later-none)

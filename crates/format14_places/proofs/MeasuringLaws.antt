@@ -16,7 +16,7 @@ use Rattle.laws.proofs.SelectLaws.{any-select}
 use Rattle.number.specs.BigEndian.{be}
 use Rattle.format14_uvs.specs.Checksum.{checksum}
 use Rattle.format14.specs.Selectors.{Given, given, keepsSelector, badRecord, badKeptRecord, namesMissing}
-use Rattle.format14.specs.ByNumber.{slot, badSlot, Source, Readable, All, Size, Lengths, Sums, tableMax}
+use Rattle.format14.specs.ByNumber.{slot, badSlot, Source, Readable, Size, Lengths, Sums, tableMax}
 use Rattle.format14.proofs.ByNumberLaws.{slot-like, bad-like}
 use Rattle.format14_places.specs.Measuring.{Sources, Earlier, Refused}
 
@@ -128,12 +128,13 @@ measuring-on g m t ls ss r sum p h z e = record {
   sums = set-each (λ j v. v ≡ checksum (4 + j % 2) (slot g j)) ss t sum (omega (arith, p .also)) (p .sums) e;
 }
 
-module _ (f : ℕ → List ℕ) (m t : ℕ) (ls ss : List ℕ) (p : Measuring f m t ls ss) (h : m ≤ t) where
-  pub measured-lengths : Lengths f m ls
-  measured-lengths = record { room = p .room; each = λ j l. p .each j (omega arith); small = λ j l. p .small j (omega arith) }
+-- all n tables are measured
+module _ (f : ℕ → List ℕ) (m t n : ℕ) (ls ss : List ℕ) (p : Measuring f m t ls ss) (h : m ≤ t) (e : m ≡ n) where
+  pub measured-lengths : Lengths f n ls
+  measured-lengths = record { room = omega (arith, p .room); each = λ j l. p .each j (omega arith); small = λ j l. p .small j (omega arith) }
 
-  pub measured-sums : Sums f m ss
-  measured-sums = record { room = p .also; each = λ j l. p .sums j (omega arith) }
+  pub measured-sums : Sums f n ss
+  measured-sums = record { room = omega (arith, p .also); each = λ j l. p .sums j (omega arith) }
 
 -- those before t
 module _ (f : ℕ → List ℕ) (m t : ℕ) (ls ss : List ℕ) (p : Measuring f m t ls ss) where
@@ -147,24 +148,22 @@ module _ (xs : List ℕ) (at len : ℕ) (kept : List ℕ) (ps : List ℕ) where
   pub sources-start : Sources xs at len kept 0 ps
   sources-start = record { room = omega arith; each = λ j l. absurd (omega arith) }
 
-  pub sources-on : (t m size off : ℕ) → Sources xs at len kept t ps → t < m → m ≤ size → length ps ≡ size → Source xs at len kept t off → Sources xs at len kept (t + 1) (set ps t off)
-  sources-on t m size off q h l e s = record { room = rw length-set (omega arith); each = set-each (Source xs at len kept) ps t off (omega arith) (q .each) s }
+  pub sources-on : (t off : ℕ) → Sources xs at len kept t ps → t < length ps → Source xs at len kept t off → Sources xs at len kept (t + 1) (set ps t off)
+  sources-on t off q h s = record { room = rw length-set (omega arith); each = set-each (Source xs at len kept) ps t off h (q .each) s }
 
 -- all tables are asked
-pub refused-all : (xs : List ℕ) (at len : ℕ) (kept map requested flags others : List ℕ) (m t : ℕ) (b : Bool) (ls ss : List ℕ) → All xs at kept flags m others
+pub refused-all : (xs : List ℕ) (at len : ℕ) (kept map requested : List ℕ) (m t : ℕ) (b : Bool) (ls ss : List ℕ) → m ≡ 2 * be 4 xs (at + 6)
     → Measuring (slot (given xs at len kept map requested)) m t ls ss → Refused (given xs at len kept map requested) t b → m ≤ t → b ≡ namesMissing (given xs at len kept map requested)
-refused-all xs at len kept map requested flags others m t b ls ss a p r h =
+refused-all xs at len kept map requested m t b ls ss a p r h =
     let g = given xs at len kept map requested in
     let n = be 4 xs (at + 6) in
-    let two : t ≡ 2 * n = omega (arith, a .is, p .within) in
+    let two : t ≡ 2 * n = omega (arith, a, p .within) in
     let z : 2 * 0 ≡ 0 = omega arith in
     r .is ∙ rw two (rw z at (refused-pairs g n 0)) ∙ any-select (badRecord g) (keepsSelector g) (λ i. i) n 0
 
 pub ruleset measuring = (measuring-start, measuring-on, measured-lengths, measured-sums)
 
 pub ruleset before = (lengths-before, sums-before)
-
-pub ruleset sourcing = (sources-start, sources-on)
 
 -- a table from the place of an earlier one of its sort
 module _ (xs : List ℕ) (at len : ℕ) (kept map requested : List ℕ) (t off u : ℕ) (ps : List ℕ) (r : Readable xs at len kept requested) (s : Source xs at len kept t off)

@@ -14,7 +14,8 @@ use Rattle.laws.proofs.ChoiceLaws.{by-leb, if-lt, else-lt}
 use Rattle.laws.proofs.FirstLaws.{first-from, first-holds, first-none}
 use Rattle.laws.proofs.EqListLaws.{eq-true}
 use Rattle.laws.proofs.LastsLaws.{length-concat}
-use Rattle.format14.specs.ByNumber.{tableMax, Readable, All, Lengths}
+use Rattle.number.specs.BigEndian.{be}
+use Rattle.format14.specs.ByNumber.{tableMax, Readable, Lengths}
 use Rattle.format14.specs.Ends.{from, Written, laterEqual, Ends, Total}
 use Rattle.format14.proofs.SlotsLaws.{from-apart, written-missing, written-again, written-new, behind-missing, behind-new, among-from}
 
@@ -26,10 +27,10 @@ pub record Placing (f : ℕ → List ℕ) (m k : ℕ) (ends : List ℕ) (tail : 
   pub few : tail ≤ tableMax * (m - k)
   pub each : (j : ℕ) → k ≤ j → j < m → getD ends j 0 ≡ behind (f j) (Written f m 0)
 
-pub placing-start : (f : ℕ → List ℕ) (m : ℕ) (ends : List ℕ) → m ≤ length ends → Placing f m m ends 0
+pub placing-start : (f : ℕ → List ℕ) (m k : ℕ) (ends : List ℕ) → k ≡ m → m ≤ length ends → Placing f m k ends 0
 unfolding from lasts concat
-placing-start f m ends h =
-    let e : m - m ≡ 0 = omega arith in
+placing-start f m k ends s h =
+    let e : m - k ≡ 0 = omega arith in
     record { within = omega arith; room = h; total = rw e; few = omega arith; each = λ j a b. absurd (omega arith) }
 
 module _ (f : ℕ → List ℕ) (m k : ℕ) (ends : List ℕ) (tail : ℕ) (ls : List ℕ) (p : Placing f m k ends tail) (q : Lengths f m ls) (h : 0 < k) where
@@ -99,18 +100,18 @@ module _ (f : ℕ → List ℕ) (m k : ℕ) (ends : List ℕ) (tail : ℕ) (ls :
           each = each-more (tail + getD ls (k - 1) 0) (omega (arith, far, p .total, length-is));
         }
 
-    -- the distance and the length are the code's own
-    pub placing-there : (next : List ℕ) (r : ℕ) → next ≡ set ends (k - 1) (ifLt j m (getD ends j 0) (tail + getD ls (k - 1) 0)) → r ≡ ifLt j m tail (tail + getD ls (k - 1) 0)
+    -- the number n of tables, the distance and the length are the code's own
+    pub placing-there : (n : ℕ) (next : List ℕ) (r : ℕ) → n ≡ m → next ≡ set ends (k - 1) (ifLt j n (getD ends j 0) (tail + getD ls (k - 1) 0)) → r ≡ ifLt j n tail (tail + getD ls (k - 1) 0)
         → Placing f m (k - 1) next r
-    placing-there next r d w =
+    placing-there n next r s d w =
         by-leb (Placing f m (k - 1) next r) m j
         (λ l.
-        let u = d ∙ sym (ap (set ends (k - 1)) (else-lt j m (getD ends j 0) (tail + getD ls (k - 1) 0) l refl)) in
-        let v = w ∙ sym (else-lt j m tail (tail + getD ls (k - 1) 0) l refl) in
+        let u = d ∙ sym (ap (set ends (k - 1)) (else-lt j n (getD ends j 0) (tail + getD ls (k - 1) 0) (omega arith) refl)) in
+        let v = w ∙ sym (else-lt j n tail (tail + getD ls (k - 1) 0) (omega arith) refl) in
         rw (u, v) (placing-new l))
         (λ l.
-        let u = d ∙ sym (ap (set ends (k - 1)) (if-lt j m (getD ends j 0) (tail + getD ls (k - 1) 0) l refl)) in
-        let v = w ∙ sym (if-lt j m tail (tail + getD ls (k - 1) 0) l refl) in
+        let u = d ∙ sym (ap (set ends (k - 1)) (if-lt j n (getD ends j 0) (tail + getD ls (k - 1) 0) (omega arith) refl)) in
+        let v = w ∙ sym (if-lt j n tail (tail + getD ls (k - 1) 0) (omega arith) refl) in
         rw (u, v) (placing-again l))
 
 -- at the end every table has its distance
@@ -125,7 +126,6 @@ placing-total f m k ends tail p h =
 pub ruleset placing = (placing-start, placing-missing, placing-there)
 
 -- sums stay small
-pub tail-fits : (f : ℕ → List ℕ) (m k : ℕ) (ends : List ℕ) (tail : ℕ) (ls xs : List ℕ) (at len : ℕ) (kept requested flags others : List ℕ) → Placing f m k ends tail → Lengths f m ls → 0 < k
-    → Readable xs at len kept requested → All xs at kept flags m others → tail + getD ls (k - 1) 0 < 2 ^ 64
-tail-fits f m k ends tail ls xs at len kept requested flags others p q h r a =
-    omega (arith, p .few, p .within, q .small (k - 1) (omega (arith, p .within)), r .few, a .is)
+pub tail-fits : (f : ℕ → List ℕ) (xs : List ℕ) (at len : ℕ) (kept requested : List ℕ) (k : ℕ) (ends : List ℕ) (tail : ℕ) (ls : List ℕ) → Readable xs at len kept requested
+    → Placing f (2 * be 4 xs (at + 6)) k ends tail → Lengths f (2 * be 4 xs (at + 6)) ls → 0 < k → tail + getD ls (k - 1) 0 < 2 ^ 64
+tail-fits f xs at len kept requested k ends tail ls r p q h = omega (arith, p .few, p .within, q .small (k - 1) (omega (arith, p .within)), r .few)

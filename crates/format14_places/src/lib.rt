@@ -1,14 +1,14 @@
 // Where the new tables of a format 14 subtable stand: each is measured once, a table whose source stood before not again, and placed by its
 // distance from the subtable's end, equal ones at one place.
+use format14::Subtable;
 ghost use mathlib.Core.Path.{_≡_};
 ghost use Prim.Native.Nat.{_+_, _%_, _≤_, _*_, _<_};
 ghost use lib.ListN.{length, getD};
 ghost use Rattle.format14_uvs.specs.Checksum.{checksum};
-ghost use Rattle.format14.specs.Selectors.{given, namesMissing};
-ghost use Rattle.format14.specs.ByNumber.{slot, Source, Readable, Numbered, All, Size, Lengths, Sums};
+ghost use Rattle.format14.specs.Selectors.{given, selectorRecords, namesMissing};
+ghost use Rattle.format14.specs.ByNumber.{slot, Source, Readable, Numbered, Size, Lengths, Sums};
 ghost use Rattle.format14_places.specs.Measuring.{Sources, Earlier, Refused};
 ghost use Rattle.laws.specs.Select.{eqList};
-ghost use Rattle.number.specs.BigEndian.{be};
 ghost use Rattle.format14.specs.Ends.{laterEqual, Ends, Total};
 
 // The last table before t, of t's sort, whose source stands at `off`; t if there is none.
@@ -26,19 +26,18 @@ fn earlier(sources: &[usize], t: usize, off: usize) -> usize
     t
 }
 
-// The length of a new table, a checksum of its bytes, and whether it or one before it brings refusal 8.
+// The length of a new table, a checksum of its bytes, where its source stands, and whether it or a table before it brings refusal 8.
 struct Measured {
     size: usize,
     sum: u64,
+    source: usize,
     refused: bool,
 }
 
-// The same of table t, whose source stands at `off`. A table from the place of an earlier one is like that one and not measured again.
-// The flags are work room.
+// The same of table t. A table from the place of an earlier one is like that one and not measured again. The flags are work room.
 fn measure_one(
     s: &[u8],
-    at: usize,
-    len: usize,
+    subtable: Subtable,
     kept: &[u32],
     map: &[u16],
     requested: &[u16],
@@ -47,73 +46,69 @@ fn measure_one(
     sums: &[u64],
     sources: &[usize],
     t: usize,
-    off: usize,
     refused: bool,
 ) -> Measured
-    requires { ⌜ Readable (now s) at len (now kept) (now requested) ⌝ }
-    requires { ⌜ Numbered (now s) at (now kept) (now flags) t ⌝ }
-    requires { ⌜ Source (now s) at len (now kept) t off ⌝ }
-    requires { ⌜ Lengths (slot (given (now s) at len (now kept) (now map) (now requested))) t (now lengths) ⌝ }
-    requires { ⌜ Sums (slot (given (now s) at len (now kept) (now map) (now requested))) t (now sums) ⌝ }
-    requires { ⌜ Sources (now s) at len (now kept) t (now sources) ⌝ }
-    requires { ⌜ Refused (given (now s) at len (now kept) (now map) (now requested)) t refused ⌝ }
-    ensures { λ r. ⌜ Size (given (now (s .entry)) at len (now (kept .entry)) (now (map .entry)) (now (requested .entry))) t (r .size) ⌝ }
-    ensures { λ r. ⌜ r .sum ≡ checksum (4 + t % 2) (slot (given (now (s .entry)) at len (now (kept .entry)) (now (map .entry)) (now (requested .entry))) t) ⌝ }
-    ensures { λ r. ⌜ Refused (given (now (s .entry)) at len (now (kept .entry)) (now (map .entry)) (now (requested .entry))) (t + 1) (r .refused) ⌝ }
+    requires { ⌜ Readable (now s) (subtable .at) (subtable .len) (now kept) (now requested) ⌝ }
+    requires { ⌜ Numbered (now s) (subtable .at) (now kept) (now flags) t ⌝ }
+    requires { ⌜ (let g = given (now s) (subtable .at) (subtable .len) (now kept) (now map) (now requested) in Lengths (slot g) t (now lengths) × (Sums (slot g) t (now sums) × Refused g t refused)) ⌝ }
+    requires { ⌜ Sources (now s) (subtable .at) (subtable .len) (now kept) t (now sources) ⌝ }
+    ensures { λ r. ⌜ (let g = given (now (s .entry)) (subtable .at) (subtable .len) (now (kept .entry)) (now (map .entry)) (now (requested .entry)) in Size g t (r .size) × ((r .sum ≡ checksum (4 + t % 2) (slot g t)) × Refused g (t + 1) (r .refused))) ⌝ }
+    ensures { λ r. ⌜ Source (now (s .entry)) (subtable .at) (subtable .len) (now (kept .entry)) t (r .source) ⌝ }
 {
+    let off = format14_tables::source_table(s, subtable, kept, requested, t);
     let u = earlier(sources, t, off);
     if u < t {
+        let size = lengths[u];
+        let sum = sums[u];
         return Measured {
-            size: lengths[u],
-            sum: sums[u],
+            size: size,
+            sum: sum,
+            source: off,
             refused: refused,
         };
     }
-    let table = format14_tables::measure_table(s, at, len, kept, map, requested, flags, t, off);
+    let table = format14_tables::measure_table(s, subtable, kept, map, requested, flags, t, off);
     if table.bad {
         return Measured {
             size: table.size,
             sum: table.sum,
+            source: off,
             refused: true,
         };
     }
     Measured {
         size: table.size,
         sum: table.sum,
+        source: off,
         refused: refused,
     }
 }
 
-// The lengths and checksums of the m new tables, and refusal 8: whether some kept selector record has a mapping to be kept that names a missing
+// The lengths and checksums of the new tables, and refusal 8: whether some kept selector record has a mapping to be kept that names a missing
 // glyph. The flags are work room.
 pub fn measure(
     s: &[u8],
-    at: usize,
-    len: usize,
+    subtable: Subtable,
     kept: &[u32],
     map: &[u16],
     requested: &[u16],
     flags: &mut [u8],
     lengths: &mut [usize],
     sums: &mut [u64],
-    m: usize,
 ) -> bool
-    requires { ⌜ Readable (now s) at len (now kept) (now requested) ⌝ }
-    requires { ⌜ All (now s) at (now kept) (now flags) m (now flags) ⌝ }
-    requires { ⌜ (m ≤ length (now lengths)) × (m ≤ length (now sums)) ⌝ }
-    ensures { λ r. ⌜ r ≡ namesMissing (given (now (s .entry)) at len (now (kept .entry)) (now (map .entry)) (now (requested .entry))) ⌝ }
-    ensures { λ _. ⌜ Lengths (slot (given (now (s .entry)) at len (now (kept .entry)) (now (map .entry)) (now (requested .entry)))) m (now (lengths .exit)) ⌝ }
-    ensures { λ _. ⌜ Sums (slot (given (now (s .entry)) at len (now (kept .entry)) (now (map .entry)) (now (requested .entry)))) m (now (sums .exit)) ⌝ }
+    requires { ⌜ Readable (now s) (subtable .at) (subtable .len) (now kept) (now requested) ⌝ }
+    requires { ⌜ length (now kept) ≤ length (now flags) ⌝ }
+    requires { ⌜ (1024 ≤ length (now lengths)) × (1024 ≤ length (now sums)) ⌝ }
+    ensures { λ r. ⌜ (let g = given (now (s .entry)) (subtable .at) (subtable .len) (now (kept .entry)) (now (map .entry)) (now (requested .entry)) in (r ≡ namesMissing g) × (Lengths (slot g) (2 * selectorRecords g) (now (lengths .exit)) × Sums (slot g) (2 * selectorRecords g) (now (sums .exit)))) ⌝ }
 {
+    let m = format14_tables::count_tables(s, subtable);
     let mut sources = [0usize; 1024];
     let mut t = 0;
     let mut refused = false;
     while t < m {
-        let off = format14_tables::source_table(s, at, len, kept, requested, t);
         let table = measure_one(
             s,
-            at,
-            len,
+            subtable,
             kept,
             map,
             requested,
@@ -122,12 +117,11 @@ pub fn measure(
             sums,
             &sources,
             t,
-            off,
             refused,
         );
         lengths[t] = table.size;
         sums[t] = table.sum;
-        sources[t] = off;
+        sources[t] = table.source;
         refused = table.refused;
         t += 1;
     }
@@ -137,8 +131,7 @@ pub fn measure(
 // Whether tables t and j, the first of them there, are equal. Lengths and checksums rule most out. The flags are work room.
 fn equal_tables(
     s: &[u8],
-    at: usize,
-    len: usize,
+    subtable: Subtable,
     kept: &[u32],
     map: &[u16],
     requested: &[u16],
@@ -149,25 +142,23 @@ fn equal_tables(
     t: usize,
     j: usize,
 ) -> bool
-    requires { ⌜ Readable (now s) at len (now kept) (now requested) ⌝ }
-    requires { ⌜ Numbered (now s) at (now kept) (now flags) t ⌝ }
-    requires { ⌜ Numbered (now s) at (now kept) (now others) j ⌝ }
-    requires { ⌜ Lengths (slot (given (now s) at len (now kept) (now map) (now requested))) (2 * be 4 (now s) (at + 6)) (now lengths) ⌝ }
-    requires { ⌜ Sums (slot (given (now s) at len (now kept) (now map) (now requested))) (2 * be 4 (now s) (at + 6)) (now sums) ⌝ }
+    requires { ⌜ Readable (now s) (subtable .at) (subtable .len) (now kept) (now requested) ⌝ }
+    requires { ⌜ Numbered (now s) (subtable .at) (now kept) (now flags) t ⌝ }
+    requires { ⌜ Numbered (now s) (subtable .at) (now kept) (now others) j ⌝ }
+    requires { ⌜ (let g = given (now s) (subtable .at) (subtable .len) (now kept) (now map) (now requested) in Lengths (slot g) (2 * selectorRecords g) (now lengths) × Sums (slot g) (2 * selectorRecords g) (now sums)) ⌝ }
     requires { ⌜ 0 < getD (now lengths) t 0 ⌝ }
-    ensures { λ r. ⌜ r ≡ eqList (slot (given (now (s .entry)) at len (now (kept .entry)) (now (map .entry)) (now (requested .entry))) t) (slot (given (now (s .entry)) at len (now (kept .entry)) (now (map .entry)) (now (requested .entry))) j) ⌝ }
+    ensures { λ r. ⌜ (let g = given (now (s .entry)) (subtable .at) (subtable .len) (now (kept .entry)) (now (map .entry)) (now (requested .entry)) in r ≡ eqList (slot g t) (slot g j)) ⌝ }
 {
     if format14_sharing::alike(lengths, sums, t, j) {
-        return format14_tables::same_table(s, at, len, kept, map, requested, flags, others, t, j);
+        return format14_tables::same_table(s, subtable, kept, map, requested, flags, others, t, j);
     }
     false
 }
 
-// The next table after t, which is there, that equals it; m if none does.
+// The next table after t, which is there, that equals it; the number of tables if none does. The flags are work room.
 fn later_equal(
     s: &[u8],
-    at: usize,
-    len: usize,
+    subtable: Subtable,
     kept: &[u32],
     map: &[u16],
     requested: &[u16],
@@ -175,22 +166,21 @@ fn later_equal(
     others: &mut [u8],
     lengths: &[usize],
     sums: &[u64],
-    m: usize,
     t: usize,
 ) -> usize
-    requires { ⌜ Readable (now s) at len (now kept) (now requested) ⌝ }
-    requires { ⌜ All (now s) at (now kept) (now flags) m (now others) ⌝ }
-    requires { ⌜ Lengths (slot (given (now s) at len (now kept) (now map) (now requested))) m (now lengths) ⌝ }
-    requires { ⌜ Sums (slot (given (now s) at len (now kept) (now map) (now requested))) m (now sums) ⌝ }
-    requires { ⌜ (t < m) × (0 < getD (now lengths) t 0) ⌝ }
-    ensures { λ r. ⌜ r ≡ laterEqual (slot (given (now (s .entry)) at len (now (kept .entry)) (now (map .entry)) (now (requested .entry)))) m t ⌝ }
+    requires { ⌜ Readable (now s) (subtable .at) (subtable .len) (now kept) (now requested) ⌝ }
+    requires { ⌜ Numbered (now s) (subtable .at) (now kept) (now flags) t ⌝ }
+    requires { ⌜ length (now kept) ≤ length (now others) ⌝ }
+    requires { ⌜ (let g = given (now s) (subtable .at) (subtable .len) (now kept) (now map) (now requested) in Lengths (slot g) (2 * selectorRecords g) (now lengths) × Sums (slot g) (2 * selectorRecords g) (now sums)) ⌝ }
+    requires { ⌜ 0 < getD (now lengths) t 0 ⌝ }
+    ensures { λ r. ⌜ (let g = given (now (s .entry)) (subtable .at) (subtable .len) (now (kept .entry)) (now (map .entry)) (now (requested .entry)) in r ≡ laterEqual (slot g) (2 * selectorRecords g) t) ⌝ }
 {
+    let m = format14_tables::count_tables(s, subtable);
     let mut j = t + 1;
     while j < m {
         let same = equal_tables(
             s,
-            at,
-            len,
+            subtable,
             kept,
             map,
             requested,
@@ -210,10 +200,10 @@ fn later_equal(
 }
 
 // The distance of each table from the end of the subtable, found from the last table to the first; the length of all that are written.
+// The flags are work room.
 pub fn place_tables(
     s: &[u8],
-    at: usize,
-    len: usize,
+    subtable: Subtable,
     kept: &[u32],
     map: &[u16],
     requested: &[u16],
@@ -222,16 +212,14 @@ pub fn place_tables(
     lengths: &[usize],
     sums: &[u64],
     ends: &mut [usize],
-    m: usize,
 ) -> usize
-    requires { ⌜ Readable (now s) at len (now kept) (now requested) ⌝ }
-    requires { ⌜ All (now s) at (now kept) (now flags) m (now others) ⌝ }
-    requires { ⌜ Lengths (slot (given (now s) at len (now kept) (now map) (now requested))) m (now lengths) ⌝ }
-    requires { ⌜ Sums (slot (given (now s) at len (now kept) (now map) (now requested))) m (now sums) ⌝ }
-    requires { ⌜ m ≤ length (now ends) ⌝ }
-    ensures { λ _. ⌜ Ends (slot (given (now (s .entry)) at len (now (kept .entry)) (now (map .entry)) (now (requested .entry)))) m (now (ends .exit)) ⌝ }
-    ensures { λ r. ⌜ Total (slot (given (now (s .entry)) at len (now (kept .entry)) (now (map .entry)) (now (requested .entry)))) m r ⌝ }
+    requires { ⌜ Readable (now s) (subtable .at) (subtable .len) (now kept) (now requested) ⌝ }
+    requires { ⌜ (length (now kept) ≤ length (now flags)) × (length (now kept) ≤ length (now others)) ⌝ }
+    requires { ⌜ (let g = given (now s) (subtable .at) (subtable .len) (now kept) (now map) (now requested) in Lengths (slot g) (2 * selectorRecords g) (now lengths) × Sums (slot g) (2 * selectorRecords g) (now sums)) ⌝ }
+    requires { ⌜ 1024 ≤ length (now ends) ⌝ }
+    ensures { λ r. ⌜ (let g = given (now (s .entry)) (subtable .at) (subtable .len) (now (kept .entry)) (now (map .entry)) (now (requested .entry)) in Ends (slot g) (2 * selectorRecords g) (now (ends .exit)) × Total (slot g) (2 * selectorRecords g) r) ⌝ }
 {
+    let m = format14_tables::count_tables(s, subtable);
     let mut tail = 0;
     let mut k = m;
     while k > 0 {
@@ -242,8 +230,7 @@ pub fn place_tables(
         } else {
             let j = later_equal(
                 s,
-                at,
-                len,
+                subtable,
                 kept,
                 map,
                 requested,
@@ -251,7 +238,6 @@ pub fn place_tables(
                 others,
                 lengths,
                 sums,
-                m,
                 k,
             );
             tail = format14_sharing::place_table(ends, m, k, size, j, tail);

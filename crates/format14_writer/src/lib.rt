@@ -1,13 +1,17 @@
 // The new subtable of format 14: which selector records stay, where their tables stand, and its bytes.
 use format14::Outcome;
+use format14::Subtable;
 ghost use mathlib.Core.Path.{_≡_};
+ghost use mathlib.Core.List.{_++_};
 ghost use Prim.Native.Nat.{_+_, _*_, _<_, _≤_};
 ghost use lib.ListN.{length};
 ghost use lib.Seq.{sets};
 ghost use Rattle.laws.specs.Pieces.{concat};
+ghost use Rattle.laws.specs.Select.{flat};
 ghost use Rattle.number.specs.BigEndian.{be};
-ghost use Rattle.format14.specs.Selectors.{given, namesMissing};
-ghost use Rattle.format14.specs.ByNumber.{slot, Readable, All};
+ghost use Rattle.format14.specs.Selectors.{given, selectorRecords, namesMissing};
+ghost use Rattle.format14.specs.ByNumber.{slot, Readable};
+ghost use Rattle.format14.specs.SelectorRecords.{usedRecords, recordAt, header14, Distances};
 ghost use Rattle.format14.specs.Ends.{Written, Ends, Total};
 ghost use Rattle.format14.specs.Format14.{rows, lengthOf, format14, outcome, lengthIn};
 ghost use Rattle.format14.specs.Parts.{outcomeFrom, Stops, endsAt};
@@ -18,44 +22,37 @@ struct LaidOut {
     refused: bool,
 }
 
-// Measures the m tables, then places them. The flags are work room.
+// Measures the tables, then places them. The flags are work room.
 fn lay_out(
     s: &[u8],
-    at: usize,
-    len: usize,
+    subtable: Subtable,
     kept: &[u32],
     map: &[u16],
     requested: &[u16],
     flags: &mut [u8],
     others: &mut [u8],
     ends: &mut [usize],
-    m: usize,
 ) -> LaidOut
-    requires { ⌜ Readable (now s) at len (now kept) (now requested) ⌝ }
-    requires { ⌜ All (now s) at (now kept) (now flags) m (now others) ⌝ }
-    requires { ⌜ m ≤ length (now ends) ⌝ }
-    ensures { λ r. ⌜ r .refused ≡ namesMissing (given (now (s .entry)) at len (now (kept .entry)) (now (map .entry)) (now (requested .entry))) ⌝ }
-    ensures { λ _. ⌜ Ends (slot (given (now (s .entry)) at len (now (kept .entry)) (now (map .entry)) (now (requested .entry)))) m (now (ends .exit)) ⌝ }
-    ensures { λ r. ⌜ Total (slot (given (now (s .entry)) at len (now (kept .entry)) (now (map .entry)) (now (requested .entry)))) m (r .tail) ⌝ }
+    requires { ⌜ Readable (now s) (subtable .at) (subtable .len) (now kept) (now requested) ⌝ }
+    requires { ⌜ (length (now kept) ≤ length (now flags)) × (length (now kept) ≤ length (now others)) ⌝ }
+    requires { ⌜ 1024 ≤ length (now ends) ⌝ }
+    ensures { λ r. ⌜ (let g = given (now (s .entry)) (subtable .at) (subtable .len) (now (kept .entry)) (now (map .entry)) (now (requested .entry)) in (r .refused ≡ namesMissing g) × (Ends (slot g) (2 * selectorRecords g) (now (ends .exit)) × Total (slot g) (2 * selectorRecords g) (r .tail))) ⌝ }
 {
     let mut lengths = [0usize; 1024];
     let mut sums = [0u64; 1024];
     let refused = format14_places::measure(
         s,
-        at,
-        len,
+        subtable,
         kept,
         map,
         requested,
         flags,
         &mut lengths,
         &mut sums,
-        m,
     );
     let tail = format14_places::place_tables(
         s,
-        at,
-        len,
+        subtable,
         kept,
         map,
         requested,
@@ -64,7 +61,6 @@ fn lay_out(
         &lengths,
         &sums,
         ends,
-        m,
     );
     LaidOut {
         tail: tail,
@@ -85,11 +81,10 @@ fn outcome_from(refused: bool, count: usize, total: usize) -> Outcome
     Outcome::Length(total)
 }
 
-// What becomes of the subtable of `len` bytes at `at`; `ends` then holds the distance of each of its tables from its end. The flags are work room.
+// What becomes of the subtable; `ends` then holds the distance of each of its tables from its end. The flags are work room.
 pub fn size(
     s: &[u8],
-    at: usize,
-    len: usize,
+    subtable: Subtable,
     kept: &[u32],
     map: &[u16],
     requested: &[u16],
@@ -97,18 +92,36 @@ pub fn size(
     others: &mut [u8],
     ends: &mut [usize],
 ) -> Outcome
-    requires { ⌜ Readable (now s) at len (now kept) (now requested) ⌝ }
+    requires { ⌜ Readable (now s) (subtable .at) (subtable .len) (now kept) (now requested) ⌝ }
     requires { ⌜ (length (now kept) ≤ length (now flags)) × (length (now kept) ≤ length (now others)) ⌝ }
     requires { ⌜ 1024 ≤ length (now ends) ⌝ }
-    ensures { λ r. ⌜ r ≡ outcome (given (now (s .entry)) at len (now (kept .entry)) (now (map .entry)) (now (requested .entry))) ⌝ }
+    ensures { λ r. ⌜ (let g = given (now (s .entry)) (subtable .at) (subtable .len) (now (kept .entry)) (now (map .entry)) (now (requested .entry)) in (r ≡ outcome g) × Ends (slot g) (2 * selectorRecords g) (now (ends .exit))) ⌝ }
     ensures { λ r. ⌜ lengthIn r < 4294967296 ⌝ }
-    ensures { λ _. ⌜ Ends (slot (given (now (s .entry)) at len (now (kept .entry)) (now (map .entry)) (now (requested .entry)))) (2 * be 4 (now (s .entry)) (at + 6)) (now (ends .exit)) ⌝ }
 {
-    let n = number::u32_at(s, at + 6) as usize;
-    let tables = lay_out(s, at, len, kept, map, requested, flags, others, ends, 2 * n);
+    let n = number::u32_at(s, subtable.at + 6) as usize;
+    let tables = lay_out(s, subtable, kept, map, requested, flags, others, ends);
     let count = format14_selectors::count_records(ends, n);
     let tail = tables.tail;
     outcome_from(tables.refused, count, 10 + 11 * count + tail)
+}
+
+// Writes the header of a subtable of `total` bytes, and behind it the selector records that have a table.
+fn put_front(
+    out: &mut [u8],
+    place: usize,
+    s: &[u8],
+    subtable: Subtable,
+    ends: &[usize],
+    total: usize,
+)
+    requires { ⌜ subtable .at + 10 + 11 * be 4 (now s) (subtable .at + 6) ≤ length (now s) ⌝ }
+    requires { ⌜ (let n = be 4 (now s) (subtable .at + 6) in Distances n total (now ends) × (place + 10 + 11 * length (usedRecords (now ends) n) ≤ length (now out))) ⌝ }
+    ensures { λ _. ⌜ (let ks = usedRecords (now (ends .entry)) (be 4 (now (s .entry)) (subtable .at + 6)) in now (out .exit) ≡ sets (now (out .entry)) place (header14 total (length ks) ++ flat (recordAt (now (s .entry)) (subtable .at) total (now (ends .entry))) ks)) ⌝ }
+{
+    let n = number::u32_at(s, subtable.at + 6) as usize;
+    let count = format14_selectors::count_records(ends, n);
+    format14_selectors::put_header(out, place, total as u32, count as u32);
+    format14_selectors::copy_records(out, place + 10, s, subtable.at, total, ends, n);
 }
 
 // Writes the tables that are written at their own place, from the last to the first, so that they end at `stop`.
@@ -116,23 +129,20 @@ fn copy_var_selector_record_uvs_tables(
     out: &mut [u8],
     stop: usize,
     s: &[u8],
-    at: usize,
-    len: usize,
+    subtable: Subtable,
     kept: &[u32],
     map: &[u16],
     requested: &[u16],
     flags: &mut [u8],
     ends: &[usize],
-    m: usize,
 )
-    requires { ⌜ Readable (now s) at len (now kept) (now requested) ⌝ }
-    requires { ⌜ All (now s) at (now kept) (now flags) m (now flags) ⌝ }
-    requires { ⌜ Ends (slot (given (now s) at len (now kept) (now map) (now requested))) m (now ends) ⌝ }
-    requires { ⌜ Stops (slot (given (now s) at len (now kept) (now map) (now requested))) m stop (now out) ⌝ }
-    ensures { λ _. ⌜ now (out .exit) ≡ endsAt stop (now (out .entry)) (concat (Written (slot (given (now (s .entry)) at len (now (kept .entry)) (now (map .entry)) (now (requested .entry)))) m 0)) ⌝ }
+    requires { ⌜ Readable (now s) (subtable .at) (subtable .len) (now kept) (now requested) ⌝ }
+    requires { ⌜ length (now kept) ≤ length (now flags) ⌝ }
+    requires { ⌜ (let g = given (now s) (subtable .at) (subtable .len) (now kept) (now map) (now requested) in Ends (slot g) (2 * selectorRecords g) (now ends) × Stops (slot g) (2 * selectorRecords g) stop (now out)) ⌝ }
+    ensures { λ _. ⌜ (let g = given (now (s .entry)) (subtable .at) (subtable .len) (now (kept .entry)) (now (map .entry)) (now (requested .entry)) in now (out .exit) ≡ endsAt stop (now (out .entry)) (concat (Written (slot g) (2 * selectorRecords g) 0))) ⌝ }
 {
     let mut tail = 0;
-    let mut k = m;
+    let mut k = format14_tables::count_tables(s, subtable);
     while k > 0 {
         k -= 1;
         let far = ends[k];
@@ -141,8 +151,7 @@ fn copy_var_selector_record_uvs_tables(
                 out,
                 stop - far,
                 s,
-                at,
-                len,
+                subtable,
                 kept,
                 map,
                 requested,
@@ -159,8 +168,7 @@ pub fn serialize(
     out: &mut [u8],
     place: usize,
     s: &[u8],
-    at: usize,
-    len: usize,
+    subtable: Subtable,
     kept: &[u32],
     map: &[u16],
     requested: &[u16],
@@ -168,27 +176,22 @@ pub fn serialize(
     ends: &[usize],
     total: usize,
 )
-    requires { ⌜ Readable (now s) at len (now kept) (now requested) ⌝ }
+    requires { ⌜ Readable (now s) (subtable .at) (subtable .len) (now kept) (now requested) ⌝ }
     requires { ⌜ length (now kept) ≤ length (now flags) ⌝ }
-    requires { ⌜ Ends (slot (given (now s) at len (now kept) (now map) (now requested))) (2 * be 4 (now s) (at + 6)) (now ends) ⌝ }
-    requires { ⌜ (total ≡ lengthOf (rows (given (now s) at len (now kept) (now map) (now requested)))) × (place + total ≤ length (now out)) ⌝ }
-    ensures { λ _. ⌜ now (out .exit) ≡ sets (now (out .entry)) place (format14 (rows (given (now (s .entry)) at len (now (kept .entry)) (now (map .entry)) (now (requested .entry))))) ⌝ }
+    requires { ⌜ (let g = given (now s) (subtable .at) (subtable .len) (now kept) (now map) (now requested) in Ends (slot g) (2 * selectorRecords g) (now ends) × (total ≡ lengthOf (rows g))) ⌝ }
+    requires { ⌜ place + total ≤ length (now out) ⌝ }
+    ensures { λ _. ⌜ now (out .exit) ≡ sets (now (out .entry)) place (format14 (rows (given (now (s .entry)) (subtable .at) (subtable .len) (now (kept .entry)) (now (map .entry)) (now (requested .entry))))) ⌝ }
 {
-    let n = number::u32_at(s, at + 6) as usize;
-    let count = format14_selectors::count_records(ends, n);
-    format14_selectors::put_header(out, place, total as u32, count as u32);
-    format14_selectors::copy_records(out, place + 10, s, at, total, ends, n);
+    put_front(out, place, s, subtable, ends, total);
     copy_var_selector_record_uvs_tables(
         out,
         place + total,
         s,
-        at,
-        len,
+        subtable,
         kept,
         map,
         requested,
         flags,
         ends,
-        2 * n,
     );
 }

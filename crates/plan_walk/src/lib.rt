@@ -96,8 +96,7 @@ fn fresh12(
 
 fn fresh14(
     s: &[u8],
-    at: usize,
-    len: usize,
+    subtable: format14::Subtable,
     kept: &[u32],
     map: &[u16],
     requested: &[u16],
@@ -105,13 +104,13 @@ fn fresh14(
     others: &mut [u8],
     ends: &mut [usize],
 ) -> Outcome
-    requires { ⌜ Readable (now s) at len (now kept) (now requested) ⌝ }
+    requires { ⌜ Readable (now s) (subtable .at) (subtable .len) (now kept) (now requested) ⌝ }
     requires { ⌜ (length (now kept) ≤ length (now flags)) × (length (now kept) ≤ length (now others)) ⌝ }
     requires { ⌜ 1024 ≤ length (now ends) ⌝ }
-    ensures { λ r. ⌜ (r ≡ by14 (outcome14 (given (now (s .entry)) at len (now (kept .entry)) (now (map .entry)) (now (requested .entry))))) × Short r ⌝ }
-    ensures { λ _. ⌜ Ends (slot (given (now (s .entry)) at len (now (kept .entry)) (now (map .entry)) (now (requested .entry)))) (2 * be 4 (now (s .entry)) (at + 6)) (now (ends .exit)) ⌝ }
+    ensures { λ r. ⌜ (r ≡ by14 (outcome14 (given (now (s .entry)) (subtable .at) (subtable .len) (now (kept .entry)) (now (map .entry)) (now (requested .entry))))) × Short r ⌝ }
+    ensures { λ _. ⌜ Ends (slot (given (now (s .entry)) (subtable .at) (subtable .len) (now (kept .entry)) (now (map .entry)) (now (requested .entry)))) (2 * be 4 (now (s .entry)) (subtable .at + 6)) (now (ends .exit)) ⌝ }
 {
-    of_outcome14(format14_writer::size(s, at, len, kept, map, requested, flags, others, ends))
+    of_outcome14(format14_writer::size(s, subtable, kept, map, requested, flags, others, ends))
 }
 
 // What becomes of record k if no earlier table serves it, and what its writer may go by.
@@ -150,7 +149,11 @@ pub fn fresh(
         } => fresh12(s, k, n, codes, glyphs, flags, tocodes, toglyphs, fronts),
         Kind::Format14 { records: _, length } => {
             let at = source_header::offset_of(s, k);
-            fresh14(s, at, length, kept, map, requested, flags, others, ends)
+            let subtable = format14::Subtable {
+                at: at,
+                len: length,
+            };
+            fresh14(s, subtable, kept, map, requested, flags, others, ends)
         }
         Kind::Unreadable => Outcome::Skipped,
     }

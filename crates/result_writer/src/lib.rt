@@ -134,12 +134,15 @@ pub fn write_table(
         ),
         Kind::Format14 { records: _, length } => {
             let at = source_header::offset_of(s, k);
+            let subtable = format14::Subtable {
+                at: at,
+                len: length,
+            };
             format14_writer::serialize(
                 out,
                 place,
                 s,
-                at,
-                length,
+                subtable,
                 kept,
                 map,
                 requested,

@@ -6,17 +6,22 @@ use mathlib.Core.Path.{_≡_}
 use lib.ListN.{length}
 use Rattle.laws.specs.Select.{eqList}
 use Rattle.laws.proofs.SearchLaws.{Seeking, seeking}
-use Rattle.format14_places.proofs.EqualLaws.{alls}
+use Rattle.format14_places.proofs.EqualLaws.{later-equals}
 use Rattle.format14.specs.Selectors.{given}
 use Rattle.format14.specs.ByNumber.{slot}
 use Rattle.format14_places.proofs.later_equal.Statement.{statement}
 use Rattle.format14_places.proofs.later_equal.Tie as tie
 
 abbrev Inv-loop : tie.InvT-loop
-Inv-loop s at len kept map requested flags₀ others₀ lengths sums m t j₀ flags others j = Seeking (λ i. eqList (slot (given s at len kept map requested) t) (slot (given s at len kept map requested) i)) m (t + 1) j × ((length flags ≡ length flags₀) × (length others ≡ length others₀))
+Inv-loop s subtable kept map requested flags₀ others₀ lengths sums t m j₀ flags others j =
+    let f = slot (given s (subtable .at) (subtable .len) kept map requested) in
+    Seeking (λ i. eqList (f t) (f i)) m (t + 1) j × ((length flags ≡ length flags₀) × (length others ≡ length others₀))
 
 abbrev μ-loop : tie.MeasureT-loop
-μ-loop s at len kept map requested flags₀ others₀ lengths sums m t j₀ flags others j = m - j
+μ-loop s subtable kept map requested flags₀ others₀ lengths sums t m j₀ flags others j = m - j
+
+count-tables-requires : tie.Need-count-tables-requires Inv-loop μ-loop
+count-tables-requires c κs = search needs
 
 add-j : tie.Need-add-j Inv-loop μ-loop
 add-j c = search needs
@@ -25,7 +30,7 @@ loop-holds : tie.Need-loop-holds Inv-loop μ-loop
 loop-holds c = (search (needs, seeking), search needs)
 
 equal-tables-requires : tie.Need-equal-tables-requires Inv-loop μ-loop
-equal-tables-requires c κs = (search needs, (omega arith, (omega arith, (search alls, (search alls, search needs)))))
+equal-tables-requires c κs = (search needs, (omega arith, (omega arith, (search needs, search needs))))
 
 same-length : tie.Need-same-length Inv-loop μ-loop
 same-length c = search needs
@@ -34,7 +39,7 @@ same-length-2 : tie.Need-same-length-2 Inv-loop μ-loop
 same-length-2 c = search needs
 
 returns : tie.Need-returns Inv-loop μ-loop
-returns c = search seeking
+returns c = search later-equals
 
 add-j-2 : tie.Need-add-j-2 Inv-loop μ-loop
 add-j-2 c = search needs
@@ -52,7 +57,7 @@ same-length-4 : tie.Need-same-length-4 Inv-loop μ-loop
 same-length-4 c = search needs
 
 returns-2 : tie.Need-returns-2 Inv-loop μ-loop
-returns-2 c = search seeking
+returns-2 c = search later-equals
 
 pub later-equal-spec : {M : Type 1} → statement M
 later-equal-spec =
@@ -60,6 +65,7 @@ later-equal-spec =
     (tie.spec
     Inv-loop
     μ-loop
+    count-tables-requires
     add-j
     loop-holds
     equal-tables-requires

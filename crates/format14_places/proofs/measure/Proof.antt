@@ -9,27 +9,28 @@ use Prim.Native.Nat.{_-_, _≤_}
 use Rattle.format14.specs.ByNumber.{slot}
 use Rattle.format14.specs.Selectors.{given}
 use Rattle.format14_places.specs.Measuring.{Sources, Refused}
-use Rattle.format14_places.proofs.MeasuringLaws.{Measuring, measuring, before, sourcing, refusing, refused-all}
+use Rattle.format14_places.proofs.MeasuringLaws.{Measuring, measuring-start, measuring, before, sources-start, sources-on, refusing, refused-all}
 
 abbrev Inv-loop : tie.InvT-loop
-Inv-loop s at len kept map requested flags₀ lengths₀ sums₀ m sources₀ t₀ refused₀ flags lengths sums sources t refused =
-    Measuring (slot (given s at len kept map requested)) m t lengths sums × (Sources s at len kept t sources × (Refused (given s at len kept map requested) t refused × ((length flags ≡ length flags₀) × ((length lengths ≡ length lengths₀) × ((length sums ≡ length sums₀) × ((length sources ≡ 1024) × (m ≤ 1024)))))))
+Inv-loop s subtable kept map requested flags₀ lengths₀ sums₀ m sources₀ t₀ refused₀ flags lengths sums sources t refused =
+    let g = given s (subtable .at) (subtable .len) kept map requested in
+    Measuring (slot g) m t lengths sums × (Sources s (subtable .at) (subtable .len) kept t sources × (Refused g t refused × ((length flags ≡ length flags₀) × ((length lengths ≡ length lengths₀) × ((length sums ≡ length sums₀) × ((length sources ≡ 1024) × (m ≤ 1024)))))))
 
 abbrev μ-loop : tie.MeasureT-loop
-μ-loop s at len kept map requested flags₀ lengths₀ sums₀ m sources₀ t₀ refused₀ flags lengths sums sources t refused =
+μ-loop s subtable kept map requested flags₀ lengths₀ sums₀ m sources₀ t₀ refused₀ flags lengths sums sources t refused =
     m - t
 
-loop-holds : tie.Need-loop-holds Inv-loop μ-loop
-loop-holds c = (search measuring, (search sourcing, (search refusing, (search needs, (search needs, (search needs, (search needs, omega arith)))))))
+count-tables-requires : tie.Need-count-tables-requires Inv-loop μ-loop
+count-tables-requires c κs = search needs
 
-source-table-requires : tie.Need-source-table-requires Inv-loop μ-loop
-source-table-requires c κs = search needs
+loop-holds : tie.Need-loop-holds Inv-loop μ-loop
+loop-holds c = (measuring-start _ _ _ _ (omega arith) (omega arith), (search sources-start, (search refusing, (search needs, (search needs, (search needs, (search needs, omega arith)))))))
 
 slice-aggregate-measure-one : tie.Need-slice-aggregate-measure-one Inv-loop μ-loop
 slice-aggregate-measure-one c = search needs
 
 measure-one-requires : tie.Need-measure-one-requires Inv-loop μ-loop
-measure-one-requires c κs = (search needs, (omega arith, (search needs, (search before, (search before, (search needs, search needs))))))
+measure-one-requires c κs = (search needs, (omega arith, ((search before, (search before, search needs)), search needs)))
 
 mul-lengths : tie.Need-mul-lengths Inv-loop μ-loop
 mul-lengths c = search needs
@@ -56,7 +57,10 @@ loop-less : tie.Need-loop-less Inv-loop μ-loop
 loop-less c = omega arith
 
 loop-again : tie.Need-loop-again Inv-loop μ-loop
-loop-again c = (search measuring, (search sourcing, (search needs, (omega arith, (rw length-set (omega arith), (rw length-set (omega arith), (rw length-set (omega arith), omega arith)))))))
+loop-again c =
+    let made = c .before .before .measure-one in
+    let l = c .before .before .before .before .before .before .before .before .loop in
+    (search measuring, (sources-on _ _ _ _ _ (l .t) (made .result .source) (l .inv .1 .0) (omega arith) (made .ensures .1), (search needs, (omega arith, (rw length-set (omega arith), (rw length-set (omega arith), (rw length-set (omega arith), omega arith)))))))
 
 same-length : tie.Need-same-length Inv-loop μ-loop
 same-length c = search needs
@@ -76,8 +80,8 @@ measure-spec =
     (tie.spec
     Inv-loop
     μ-loop
+    count-tables-requires
     loop-holds
-    source-table-requires
     slice-aggregate-measure-one
     measure-one-requires
     mul-lengths

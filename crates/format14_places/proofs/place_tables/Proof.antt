@@ -1,23 +1,28 @@
 -- A table with an equal later on shares its distance; any other stands before all later ones.
 use borrow.Author.Needs.{needs}
 use native.Mathlib.Omega.{arith}
+use Prim.Native.Nat.{_+_, _*_}
 use mathlib.Core.Path.{_≡_}
 use lib.ListN.{length, length-set}
-use Rattle.format14_places.proofs.PlacingLaws.{Placing, placing, placing-ends, placing-total, tail-fits}
+use Rattle.format14_places.proofs.PlacingLaws.{Placing, placing-start, placing, placing-there, placing-ends, placing-total, tail-fits}
+use Rattle.number.specs.BigEndian.{be}
 use Rattle.format14.specs.Selectors.{given}
 use Rattle.format14.specs.ByNumber.{slot}
 use Rattle.format14_places.proofs.place_tables.Statement.{statement}
 use Rattle.format14_places.proofs.place_tables.Tie as tie
 
 abbrev Inv-loop : tie.InvT-loop
-Inv-loop s at len kept map requested flags₀ others₀ lengths sums ends₀ m tail₀ k₀ flags others ends tail k =
-    Placing (slot (given s at len kept map requested)) m k ends tail × ((length flags ≡ length flags₀) × ((length others ≡ length others₀) × (length ends ≡ length ends₀)))
+Inv-loop s subtable kept map requested flags₀ others₀ lengths sums ends₀ m tail₀ k₀ flags others ends tail k =
+    Placing (slot (given s (subtable .at) (subtable .len) kept map requested)) (2 * be 4 s (subtable .at + 6)) k ends tail × ((length flags ≡ length flags₀) × ((length others ≡ length others₀) × (length ends ≡ length ends₀)))
 
 abbrev μ-loop : tie.MeasureT-loop
-μ-loop s at len kept map requested flags₀ others₀ lengths sums ends₀ m tail₀ k₀ flags others ends tail k = k
+μ-loop s subtable kept map requested flags₀ others₀ lengths sums ends₀ m tail₀ k₀ flags others ends tail k = k
+
+count-tables-requires : tie.Need-count-tables-requires Inv-loop μ-loop
+count-tables-requires c κs = search needs
 
 loop-holds : tie.Need-loop-holds Inv-loop μ-loop
-loop-holds c = (search placing, search needs)
+loop-holds c = (placing-start _ _ _ _ (omega arith) (omega arith), search needs)
 
 sub-k : tie.Need-sub-k Inv-loop μ-loop
 sub-k c = search needs
@@ -41,7 +46,7 @@ loop-again : tie.Need-loop-again Inv-loop μ-loop
 loop-again c = (search placing, (omega arith, (omega arith, rw length-set (omega arith))))
 
 later-equal-requires : tie.Need-later-equal-requires Inv-loop μ-loop
-later-equal-requires c κs = (search needs, (omega arith, (search needs, (search needs, omega arith))))
+later-equal-requires c κs = (search needs, (omega arith, (omega arith, (search needs, omega arith))))
 
 place-table-requires : tie.Need-place-table-requires Inv-loop μ-loop
 place-table-requires c κs = (omega arith, search tail-fits)
@@ -50,9 +55,7 @@ loop-less-2 : tie.Need-loop-less-2 Inv-loop μ-loop
 loop-less-2 c = omega arith
 
 loop-again-2 : tie.Need-loop-again-2 Inv-loop μ-loop
-loop-again-2 c =
-    let p = c .before .before .before .before .before .before .before .before .before .before .before .before .before .before .before .before .before .before .before .before .before .before .before .before .pre in
-    (search (placing, p), omega arith)
+loop-again-2 c = (search (placing-there, c .before .before .before .before .before .before .before .before .before .before .before .before .before .before .before .before .before .before .before .before .before .before .before .before .before .pre), omega arith)
 
 same-length : tie.Need-same-length Inv-loop μ-loop
 same-length c = search needs
@@ -72,6 +75,7 @@ place-tables-spec =
     (tie.spec
     Inv-loop
     μ-loop
+    count-tables-requires
     loop-holds
     sub-k
     mul-size

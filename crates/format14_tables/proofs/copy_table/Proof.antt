@@ -10,8 +10,8 @@ source-table-requires c κs = search needs
 returns : tie.Need-returns
 returns c = search copies
 
-add-copy-default-uvs : tie.Need-add-copy-default-uvs
-add-copy-default-uvs c = search needs
+add-p : tie.Need-add-p
+add-p c = search needs
 
 copy-default-uvs-requires : tie.Need-copy-default-uvs-requires
 copy-default-uvs-requires c κs = (search lents, search room-default)
@@ -24,9 +24,6 @@ same-length-2 c = search needs
 
 returns-2 : tie.Need-returns-2
 returns-2 c = search copies
-
-add-copy-non-default-uvs : tie.Need-add-copy-non-default-uvs
-add-copy-non-default-uvs c = search needs
 
 copy-non-default-uvs-requires : tie.Need-copy-non-default-uvs-requires
 copy-non-default-uvs-requires c κs = (search lents, search room-non-default)
@@ -43,12 +40,11 @@ copy-table-spec =
     (tie.spec
     source-table-requires
     returns
-    add-copy-default-uvs
+    add-p
     copy-default-uvs-requires
     same-length
     same-length-2
     returns-2
-    add-copy-non-default-uvs
     copy-non-default-uvs-requires
     same-length-3
     returns-3)

@@ -20,10 +20,15 @@ add-same-default-2 : tie.Need-add-same-default-2
 add-same-default-2 c = search needs
 
 same-default-requires : tie.Need-same-default-requires
-same-default-requires c κs = (
-  one-default _ _ _ _ _ _ _ _ _ _ (c .before .before .before .before .before .before .before .before .before .before .before .before .before .pre .0) (c .before .before .before .before .before .before .before .before .before .before .before .before .before .pre .1 .1 .1) (c .before .before .before .before .before .source-table .ensures) (c .before .before .before .before .source-table2 .ensures) _ (c .before .before .before .before .before .before .before .before .before .before .before .before .before .pre .1 .0) (c .before .before .if3 .taken),
-  (other-default _ _ _ _ _ _ _ _ _ _ (c .before .before .before .before .before .before .before .before .before .before .before .before .before .pre .0) (c .before .before .before .before .before .before .before .before .before .before .before .before .before .pre .1 .1 .1) (c .before .before .before .before .before .source-table .ensures) (c .before .before .before .before .source-table2 .ensures) _ (c .before .before .before .before .before .before .before .before .before .before .before .before .before .pre .1 .1 .0) (c .before .before .before .before .before .before .if1 .left) (c .before .before .if3 .taken), search needs),
-)
+same-default-requires c κs =
+    let asked = c .before .before .before .before .before .before .before .before .before .before .before .before .before .pre in
+    let first = c .before .before .before .before .before .source-table .ensures in
+    let second = c .before .before .before .before .source-table2 .ensures in
+    let sort = c .before .before .before .before .before .before .if1 .left in
+    let even = c .before .before .if3 .taken in (
+      one-default _ _ _ _ _ _ _ _ _ _ (asked .0) (asked .1 .1 .1) first second _ (asked .1 .0) even,
+      (other-default _ _ _ _ _ _ _ _ _ _ (asked .0) (asked .1 .1 .1) first second _ (asked .1 .1 .0) sort even, search needs),
+    )
 
 same-length : tie.Need-same-length
 same-length c = search needs
@@ -41,10 +46,14 @@ add-same-non-default-2 : tie.Need-add-same-non-default-2
 add-same-non-default-2 c = search needs
 
 same-non-default-requires : tie.Need-same-non-default-requires
-same-non-default-requires c κs = (
-  one-non-default _ _ _ _ _ _ _ _ _ _ (c .before .before .before .before .before .before .before .before .before .before .before .pre .0) (c .before .before .before .before .before .before .before .before .before .before .before .pre .1 .1 .1) (c .before .before .before .source-table .ensures) (c .before .before .source-table2 .ensures) (c .if3 .left),
-  other-non-default _ _ _ _ _ _ _ _ _ _ (c .before .before .before .before .before .before .before .before .before .before .before .pre .0) (c .before .before .before .before .before .before .before .before .before .before .before .pre .1 .1 .1) (c .before .before .before .source-table .ensures) (c .before .before .source-table2 .ensures) (c .before .before .before .before .if1 .left) (c .if3 .left),
-)
+same-non-default-requires c κs =
+    let asked = c .before .before .before .before .before .before .before .before .before .before .before .pre in
+    let first = c .before .before .before .source-table .ensures in
+    let second = c .before .before .source-table2 .ensures in
+    let sort = c .before .before .before .before .if1 .left in (
+      one-non-default _ _ _ _ _ _ _ _ _ _ (asked .0) (asked .1 .1 .1) first second (c .if3 .left),
+      other-non-default _ _ _ _ _ _ _ _ _ _ (asked .0) (asked .1 .1 .1) first second sort (c .if3 .left),
+    )
 
 returns-3 : tie.Need-returns-3
 returns-3 c = search sames

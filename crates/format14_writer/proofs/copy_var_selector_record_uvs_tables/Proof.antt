@@ -1,19 +1,24 @@
 -- A table further from the end than all written so far is written right before them.
 use borrow.Author.Needs.{needs}
 use native.Mathlib.Omega.{arith}
+use Prim.Native.Nat.{_+_, _*_}
 use mathlib.Core.Path.{_≡_}
 use lib.ListN.{length}
 use Rattle.format14.proofs.FillingLaws.{Filling, filling, slot-room, far-fits}
+use Rattle.number.specs.BigEndian.{be}
 use Rattle.format14.specs.Selectors.{given}
 use Rattle.format14.specs.ByNumber.{slot}
 use Rattle.format14_writer.proofs.copy_var_selector_record_uvs_tables.Statement.{statement}
 use Rattle.format14_writer.proofs.copy_var_selector_record_uvs_tables.Tie as tie
 
 abbrev Inv-loop : tie.InvT-loop
-Inv-loop out₀ stop s at len kept map requested flags₀ ends m tail₀ k₀ out flags tail k = Filling (slot (given s at len kept map requested)) m stop out₀ k out tail × (length flags ≡ length flags₀)
+Inv-loop out₀ stop s subtable kept map requested flags₀ ends tail₀ k₀ out flags tail k = Filling (slot (given s (subtable .at) (subtable .len) kept map requested)) (2 * be 4 s (subtable .at + 6)) stop out₀ k out tail × (length flags ≡ length flags₀)
 
 abbrev μ-loop : tie.MeasureT-loop
-μ-loop out₀ stop s at len kept map requested flags₀ ends m tail₀ k₀ out flags tail k = k
+μ-loop out₀ stop s subtable kept map requested flags₀ ends tail₀ k₀ out flags tail k = k
+
+count-tables-requires : tie.Need-count-tables-requires Inv-loop μ-loop
+count-tables-requires c κs = search needs
 
 loop-holds : tie.Need-loop-holds Inv-loop μ-loop
 loop-holds c = (search filling, search needs)
@@ -60,6 +65,7 @@ copy-var-selector-record-uvs-tables-spec =
     (tie.spec
     Inv-loop
     μ-loop
+    count-tables-requires
     loop-holds
     sub-k
     mul-far

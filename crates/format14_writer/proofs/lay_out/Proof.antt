@@ -20,7 +20,7 @@ slice-aggregate-place-tables-2 : tie.Need-slice-aggregate-place-tables-2
 slice-aggregate-place-tables-2 c = search needs
 
 place-tables-requires : tie.Need-place-tables-requires
-place-tables-requires c κs = (search needs, (omega arith, (search needs, (search needs, search needs))))
+place-tables-requires c κs = (search needs, (omega arith, (search needs, search needs)))
 
 same-length : tie.Need-same-length
 same-length c = search needs

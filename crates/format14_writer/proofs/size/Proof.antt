@@ -1,6 +1,5 @@
 -- The tables are measured and placed, and the selector records that have one counted; these tell the outcome.
-use native.Mathlib.Omega.{arith}
-use Rattle.format14.proofs.WholeLaws.{outcome-is, outcome-short, all-ends}
+use Rattle.format14.proofs.WholeLaws.{outcome-is, outcome-short}
 use borrow.Author.Needs.{needs}
 use Rattle.format14_writer.proofs.size.Statement.{statement}
 use Rattle.format14_writer.proofs.size.Tie as tie
@@ -14,11 +13,8 @@ u32-at-requires c κs = search needs
 cast-n : tie.Need-cast-n
 cast-n c = search needs
 
-mul-lay-out : tie.Need-mul-lay-out
-mul-lay-out c = search needs
-
 lay-out-requires : tie.Need-lay-out-requires
-lay-out-requires c κs = (search needs, (omega arith, omega arith))
+lay-out-requires c κs = search needs
 
 count-records-requires : tie.Need-count-records-requires
 count-records-requires c κs = search needs
@@ -45,7 +41,7 @@ same-length-3 : tie.Need-same-length-3
 same-length-3 c = search needs
 
 returns : tie.Need-returns
-returns c = (search outcome-is, (search outcome-short, search all-ends))
+returns c = ((search outcome-is, search needs), search outcome-short)
 
 pub size-spec : {M : Type 1} → statement M
 size-spec =
@@ -54,7 +50,6 @@ size-spec =
     add-u32-at
     u32-at-requires
     cast-n
-    mul-lay-out
     lay-out-requires
     count-records-requires
     mul-outcome-from

@@ -35,7 +35,7 @@ offset-of-requires : tie.Need-offset-of-requires
 offset-of-requires c κs = search needs
 
 serialize-requires : tie.Need-serialize-requires
-serialize-requires c κs = (search tables, (search needs, (search tables, (search tables, search needs))))
+serialize-requires c κs = (search tables, (search needs, ((search tables, search tables), search needs)))
 
 enum-told : tie.Need-enum-told
 enum-told c = search needs
