@@ -1,2 +1,1 @@
-pub mod SubsetLaws
 pub mod FateLaws

@@ -18,19 +18,17 @@ pub fn subset(
     requested: &[u16],
     out: &mut [u8],
 ) -> Answer
-    ensures { λ r. ⌜ r ≡ answerOf (job (now (s .entry)) (now (codes .entry)) (now (glyphs .entry)) (now (kept .entry)) (now (map .entry)) (now (requested .entry))) (length (now (out .entry))) ⌝ }
-    ensures { λ _. ⌜ now (out .exit) ≡ outputOf (job (now (s .entry)) (now (codes .entry)) (now (glyphs .entry)) (now (kept .entry)) (now (map .entry)) (now (requested .entry))) (now (out .entry)) ⌝ }
+    ensures { λ r. ⌜ (let j = job (now (s .entry)) (now (codes .entry)) (now (glyphs .entry)) (now (kept .entry)) (now (map .entry)) (now (requested .entry)) in
+        (r ≡ answerOf j (length (now (out .entry)))) × (now (out .exit) ≡ outputOf j (now (out .entry)))) ⌝ }
 {
     let early = cmap_refusals::early_refusal(s, codes, glyphs, kept, map, requested);
     if 0 < early {
         return Answer::Refused(early);
     }
-    let room = out.len();
-    let os = cmap_rooms::carry_out(s, codes, glyphs, kept, map, requested, out);
-    cmap_concluding::answer_by(s, os, room)
+    cmap_rooms::carry_out(s, codes, glyphs, kept, map, requested, out)
 }
 
-// What becomes of record k, after checks 1 to 9. No result fits the output that is lent here, so none is written.
+// What becomes of record k, after checks 1 to 9.
 pub fn fate_of(
     s: &[u8],
     codes: &[u32],
@@ -46,7 +44,5 @@ pub fn fate_of(
     if 0 < early {
         return cmap_concluding::no_fate(FateKind::Refused(early));
     }
-    let mut short = [0u8; 1];
-    let os = cmap_rooms::carry_out(s, codes, glyphs, kept, map, requested, &mut short);
-    cmap_concluding::fate_by(s, os, k)
+    cmap_rooms::tell(s, codes, glyphs, kept, map, requested, k)
 }

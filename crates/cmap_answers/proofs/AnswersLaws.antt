@@ -6,6 +6,7 @@ use mathlib.Core.Bool.{true, false}
 use native.Mathlib.Nat.{zero-add}
 use native.Mathlib.Omega.{arith}
 use lib.Dec.{eqb}
+use lib.ListN.{length}
 use Rattle.laws.specs.Listed.{listedGlyph}
 use Rattle.laws.specs.Search.{first}
 use Rattle.laws.proofs.ChoiceLaws.{by-leb, both-left, both-right, false-true, not-true, if-lt, else-lt}
@@ -21,10 +22,12 @@ use Rattle.heads.specs.declared.Answer.the-variants.{Glyph, Refused}
 use Rattle.heads.specs.Heads.{oldHead, newHead}
 use Rattle.heads.proofs.HeadsLaws.{old-first, old-none, new-first, new-as-old}
 use Rattle.plan.specs.declared.Outcome.{Outcome}
-use Rattle.plan.specs.declared.Outcome.the-variants.{NotRetained, Skipped, Empty, TooLong, Covered, BadMapping, Served, Made}
+use Rattle.plan.specs.declared.Why.the-variants.{NotRetained, Skipped, Empty, TooLong, Covered}
+use Rattle.plan.specs.declared.Outcome.the-variants.{LeftOut, BadMapping, Served, Made}
 use Rattle.plan.specs.Outcomes.{isMade}
 use Rattle.plan.specs.Fresh.{listedOf, tableOf}
-use Rattle.result.specs.Result.{isWritten, makerOf, at, countFrom, written, resultOf}
+use Rattle.result.specs.Result.{countFrom, written, resultOf}
+use Rattle.plan.specs.Outcomes.{isWritten, makerOf, at}
 use Rattle.result.specs.Result.{offsetOf as offsetIn}
 use Rattle.result.proofs.CountLaws.{count-one, count-find}
 use Rattle.result.proofs.PlacesLaws.{Sound, made-written, table-stands, accepted-result, maker-of, entry-written}
@@ -38,11 +41,7 @@ pub record Reads (format : ℕ) (look : List ℕ → ℕ → ℕ → Found) (j :
       → (c : ℕ) → glyphOf (look xs place c) ≡ listedGlyph (listedOf j k) c
 
 pub maker-self : (o : Outcome) (k : ℕ) → isMade o ≡ true → makerOf o k ≡ k
-maker-self NotRetained k e = refl
-maker-self Skipped k e = refl
-maker-self Empty k e = refl
-maker-self TooLong k e = refl
-maker-self Covered k e = refl
+maker-self (LeftOut why) k e = refl
 maker-self BadMapping k e = refl
 maker-self (Served r) k e = absurd (false-true e)
 maker-self (Made n) k e = refl
@@ -57,10 +56,10 @@ module _ (j : Job) (os : List Outcome) (s : Sound j os) where
         let e = entry-written j os s k w in
         let st = table-stands j os s (makerOf (at os k) k) (m .maker) in
         ap (λ (f : ℕ). eqb f format)
-        (ap (λ (p : ℕ). formatOf (kindAt (resultOf j os) p)) (e .offset) ∙ t .alike (makerOf (at os k) k) (resultOf j os) (offsetIn os (makerOf (at os k) k)) (m .maker) st ∙ m .alike)
+        (ap (λ (p : ℕ). formatOf (kindAt (resultOf j os) p)) (e .offset) ∙ t .alike (makerOf (at os k) k) (resultOf j os) (offsetIn j os (makerOf (at os k) k)) (m .maker) st ∙ m .alike)
 
     -- no record of the result before one that made a table of the format leads to the format
-    leads-not : (n : ℕ) → n ≤ 64 → n ≤ first (makes j os format) 64 0 → (i : ℕ) → i < countFrom os n 0 → leadsToFormat format (resultOf j os) i ≡ false
+    leads-not : (n : ℕ) → n ≤ (length os) → n ≤ first (makes j os format) (length os) 0 → (i : ℕ) → i < countFrom os n 0 → leadsToFormat format (resultOf j os) i ≡ false
     leads-not n b h i l =
         let p = count-find os n 0 i l in
         let k = p .place in
@@ -70,7 +69,7 @@ module _ (j : Job) (os : List Outcome) (s : Sound j os) where
         (λ e.
         let f : leadsToFormat format (j .source) k ≡ true = sym (leads-alike k w) ∙ ap (leadsToFormat format (resultOf j os)) (p .before) ∙ e in
         let g : leadsToFormat format (j .source) (makerOf (at os k) k) ≡ true = ap (λ (x : ℕ). eqb x format) (m .alike) ∙ f in
-        let no = first-before (makes j os format) 64 (makerOf (at os k) k) (omega (arith, m .earlier, p .below)) (omega (arith, m .earlier, p .below)) in
+        let no = first-before (makes j os format) (length os) (makerOf (at os k) k) (omega (arith, m .earlier, p .below)) (omega (arith, m .earlier, p .below)) in
         false-true (sym no ∙ rw (m .maker) g))
 
     -- the record of the result that the first maker became
@@ -80,23 +79,23 @@ module _ (j : Job) (os : List Outcome) (s : Sound j os) where
       pub none : (k : ℕ) → k < i → leadsToFormat format (resultOf j os) k ≡ false
       pub gives : (c : ℕ) → glyphOf (look (resultOf j os) (offsetOf (resultOf j os) i) c) ≡ listedGlyph (listedOf j r) c
 
-    pub leader : (r : ℕ) → r ≡ first (makes j os format) 64 0 → r < 64 → Leader r (countFrom os r 0)
+    pub leader : (r : ℕ) → r ≡ first (makes j os format) (length os) 0 → r < (length os) → Leader r (countFrom os r 0)
     leader r q h =
-        let e : makes j os format r ≡ true = rw q (first-holds (makes j os format) 64 0 (omega arith)) in
+        let e : makes j os format r ≡ true = rw q (first-holds (makes j os format) (length os) 0 (omega arith)) in
         let m = both-left (isMade (at os r)) (leadsToFormat format (j .source) r) e in
         let f = both-right (isMade (at os r)) (leadsToFormat format (j .source) r) e in
         let w = made-written (at os r) m in
         let z = zero-add r in
-        let o = entry-written j os s r w .offset ∙ ap (offsetIn os) (maker-self (at os r) r m) in
+        let o = entry-written j os s r w .offset ∙ ap (offsetIn j os) (maker-self (at os r) r m) in
         record {
-          inside = count-one os 64 0 r h (rw z w);
+          inside = count-one os (length os) 0 r h (rw z w);
           leads = leads-alike r w ∙ f;
           none = leads-not r (omega arith) (omega arith);
-          gives = λ c. rw o (t .gives r (resultOf j os) (offsetIn os r) m (table-stands j os s r m) f c);
+          gives = λ c. rw o (t .gives r (resultOf j os) (offsetIn j os r) m (table-stands j os s r m) f c);
         }
 
-    pub leaderless : 64 ≤ first (makes j os format) 64 0 → (i : ℕ) → i < written os → leadsToFormat format (resultOf j os) i ≡ false
-    leaderless h = leads-not 64 (omega arith) h
+    pub leaderless : (length os) ≤ first (makes j os format) (length os) 0 → (i : ℕ) → i < written os → leadsToFormat format (resultOf j os) i ≡ false
+    leaderless h = leads-not (length os) (omega arith) h
 
   -- ---- the heads
 
@@ -104,21 +103,21 @@ module _ (j : Job) (os : List Outcome) (s : Sound j os) where
     pub old-answer : (c : ℕ) → oldHead (resultOf j os) c ≡ oldAnswer j os c
     unfolding answerBy
     old-answer c =
-        let r = first (makes j os 4) 64 0 in
-        by-leb (oldHead (resultOf j os) c ≡ oldAnswer j os c) 64 r
-        (λ h. else-lt r 64 (Glyph (listedGlyph (listedOf j r) c)) (Refused 11) h (old-none (resultOf j os) (written os) (accepted-result j os s) c (leaderless 4 lookup4 t4 h)))
+        let r = first (makes j os 4) (length os) 0 in
+        by-leb (oldHead (resultOf j os) c ≡ oldAnswer j os c) (length os) r
+        (λ h. else-lt r (length os) (Glyph (listedGlyph (listedOf j r) c)) (Refused 11) h (old-none (resultOf j os) (written os) (accepted-result j os s) c (leaderless 4 lookup4 t4 h)))
         (λ h.
         let d = leader 4 lookup4 t4 r refl h in
-        if-lt r 64 (Glyph (listedGlyph (listedOf j r) c)) (Refused 11) h
+        if-lt r (length os) (Glyph (listedGlyph (listedOf j r) c)) (Refused 11) h
         (old-first (resultOf j os) (written os) (accepted-result j os s) c (countFrom os r 0) (d .inside) (d .leads) (d .none) ∙ ap Glyph (d .gives c)))
 
     pub new-answer : (t12 : Reads 12 lookup12 j os) (c : ℕ) → newHead (resultOf j os) c ≡ newAnswer j os c
     unfolding answerBy
     new-answer t12 c =
-        let r = first (makes j os 12) 64 0 in
-        by-leb (newHead (resultOf j os) c ≡ newAnswer j os c) 64 r
-        (λ h. else-lt r 64 (Glyph (listedGlyph (listedOf j r) c)) (oldAnswer j os c) h (new-as-old (resultOf j os) (written os) (accepted-result j os s) c (leaderless 12 lookup12 t12 h) ∙ old-answer c))
+        let r = first (makes j os 12) (length os) 0 in
+        by-leb (newHead (resultOf j os) c ≡ newAnswer j os c) (length os) r
+        (λ h. else-lt r (length os) (Glyph (listedGlyph (listedOf j r) c)) (oldAnswer j os c) h (new-as-old (resultOf j os) (written os) (accepted-result j os s) c (leaderless 12 lookup12 t12 h) ∙ old-answer c))
         (λ h.
         let d = leader 12 lookup12 t12 r refl h in
-        if-lt r 64 (Glyph (listedGlyph (listedOf j r) c)) (oldAnswer j os c) h
+        if-lt r (length os) (Glyph (listedGlyph (listedOf j r) c)) (oldAnswer j os c) h
         (new-first (resultOf j os) (written os) (accepted-result j os s) c (countFrom os r 0) (d .inside) (d .leads) (d .none) ∙ ap Glyph (d .gives c)))

@@ -1,8 +1,9 @@
 -- The case by computation: the job is accepted, its result is the source's bytes, and both heads answer.
 use Prim.Native.Nat.{_<_}
 use mathlib.Core.Path.{_≡_, refl, ap, _∙_}
+use mathlib.Core.List.{[], _∷_}
 use native.Mathlib.Omega.{arith}
-use lib.ListN.{length, getD, set, replicate, List·getD-eq-default}
+use lib.ListN.{length, getD, List·getD-eq-default}
 use Rattle.laws.specs.Choice.{ifLt, ifLe, ifEq}
 use Rattle.laws.specs.Search.{first, some}
 use Rattle.laws.specs.Select.{each, select, anyOf, flat}
@@ -24,18 +25,18 @@ use Rattle.format4_cutting.specs.Cutting.{commitRun, cutRuns, cuts, segments, g
 use Rattle.format4_cutting.specs.Steps.{arrayFrom}
 use Rattle.format4.specs.Format4.{offsetsFrom, floorLog2, header, format4}
 use Rattle.format4.specs.Size.{sizeOf}
-use Rattle.plan.specs.declared.Outcome.the-variants.{NotRetained, Made}
+use Rattle.plan.specs.declared.Outcome.the-variants.{Made}
 use Rattle.plan.specs.Outcomes.{serves, server}
 use Rattle.plan.specs.Fresh.{tableOf, fresh}
 use Rattle.plan.specs.Plan.{retainedOutcome, outcomeOf, outcomes, plan, refused8, refused9}
 use Rattle.result.specs.Refusal.{refusalOf}
-use Rattle.result.specs.Result.{countFrom, sizesFrom, recordsFrom, tablesBelow, resultOf}
+use Rattle.result.specs.Result.{countFrom, tablesFrom, offsetOf, recordsFrom, resultOf}
 use Rattle.heads_lookup.specs.Lookup.{inArray, inSegment, find4, lookup4}
 use Rattle.heads.specs.declared.Answer.the-variants.{Glyph}
 use Rattle.heads.specs.Heads.{oldOf, newOf, byRecords, oldHead, newHead}
 use Rattle.cmap_answers.specs.Case.{bytes, job}
 
-plan-case : plan job ≡ set (replicate 64 NotRetained) 0 (Made 32)
+plan-case : plan job ≡ Made 32 ∷ []
 unfolding ifLt ifLe ifEq first some each select anyOf pieces concat be enc encs kindAt leadsTo bmpPair fullPair retained entry4 says4 lastSays maps4 maps listed covered siblingCovers commitRun cutRuns cuts segments glyphArray arrayFrom offsetsFrom sizeOf fresh serves server retainedOutcome outcomeOf outcomes plan
 plan-case = refl
 
@@ -51,8 +52,8 @@ pub accepted-case : refusalOf job ≡ 0
 unfolding ifLt ifLe ifEq first some anyOf be refused5 kindAt leadsTo bmpPair fullPair retained someRetained below holds badSizes falls exceeds lacks reachesCount refused8 refused9 refusalOf
 accepted-case = rw plan-case
 
-written-case : resultOf job (set (replicate 64 NotRetained) 0 (Made 32)) ≡ bytes
-unfolding ifLt ifLe ifEq first some each select anyOf flat pieces concat be enc encs kindAt leadsTo entry4 says4 lastSays maps4 maps listed commitRun cutRuns cuts segments glyphArray arrayFrom offsetsFrom floorLog2 header format4 tableOf countFrom sizesFrom recordsFrom tablesBelow resultOf
+written-case : resultOf job (Made 32 ∷ []) ≡ bytes
+unfolding ifLt ifLe ifEq first some each select anyOf flat pieces concat be enc encs kindAt leadsTo entry4 says4 lastSays maps4 maps listed commitRun cutRuns cuts segments glyphArray arrayFrom offsetsFrom floorLog2 header format4 tableOf countFrom tablesFrom offsetOf recordsFrom resultOf
 written-case = refl
 
 pub result-case : resultOf job (plan job) ≡ bytes

@@ -25,6 +25,7 @@ use Rattle.plan_listing.specs.Listing.{maps}
 use Rattle.heads.specs.declared.Answer.{Answer}
 use Rattle.heads.specs.declared.Answer.the-variants.{Glyph, Refused}
 use Rattle.heads.specs.Heads.{oldHead, newHead, numberOf, printedOf}
+use Rattle.plan.proofs.OutcomesLaws.{length-plan}
 use Rattle.plan.specs.declared.Outcome.{Outcome}
 use Rattle.plan.specs.Outcomes.{isMade}
 use Rattle.plan.specs.Fresh.{listedOf}
@@ -33,7 +34,9 @@ use Rattle.result.specs.Lent.{Lent}
 use Rattle.result.proofs.LentLaws.{lent}
 use Rattle.result.proofs.ListedLaws.{listed-glyph}
 use Rattle.result.specs.Refusal.{refusalOf}
-use Rattle.result.specs.Result.{isWritten, makerOf, at, resultOf, resultLength, written}
+use Rattle.result.specs.Result.{resultOf, written}
+use Rattle.result.specs.Layout.{resultLength}
+use Rattle.plan.specs.Outcomes.{isWritten, makerOf, at}
 use Rattle.result.proofs.PlacesLaws.{Sound, maker-of, accepted-result}
 use Rattle.result.proofs.LengthLaws.{length-result}
 use Rattle.result.proofs.RefusalLaws.{passed}
@@ -59,8 +62,8 @@ listed-prints j c r =
 answer-prints : (format : ℕ) (j : Job) (os : List Outcome) (c : ℕ) (other : Answer) → Prints j c other → Prints j c (answerBy format j os c other)
 unfolding answerBy ifLt
 answer-prints format j os c other p =
-    let r = first (makes j os format) 64 0 in
-    by-pick (Prints j c) (ltb r 64) (Glyph (listedGlyph (listedOf j r) c)) other (λ e. listed-prints j c r) (λ e. p)
+    let r = first (makes j os format) (length os) 0 in
+    by-pick (Prints j c) (ltb r (length os)) (Glyph (listedGlyph (listedOf j r) c)) other (λ e. listed-prints j c r) (λ e. p)
 
 old-may : (j : Job) (os : List Outcome) (c : ℕ) → Prints j c (oldAnswer j os c)
 old-may j os c = answer-prints 4 j os c (Refused 11) (record { glyph = inl refl })
@@ -70,31 +73,31 @@ new-may j os c = answer-prints 12 j os c (oldAnswer j os c) (old-may j os c)
 
 -- ---- where a record made a table that counts, the new head is not at a loss
 
-module _ (j : Job) (os : List Outcome) (few : recordCount (j .source) ≤ 64) (some9 : refused9 (j .source) os ≡ false) where
-  not-lost : 64 ≤ first (makes j os 4) 64 0 → 64 ≤ first (makes j os 12) 64 0 → ⊥
+module _ (j : Job) (os : List Outcome) (few : recordCount (j .source) ≤ length os) (some9 : refused9 (j .source) os ≡ false) where
+  not-lost : (length os) ≤ first (makes j os 4) (length os) 0 → (length os) ≤ first (makes j os 12) (length os) 0 → ⊥
   unfolding refused9
   not-lost a b =
       let e = true-of-not (some (madePlain (j .source) os) (recordCount (j .source)) 0) some9 in
       let f = some-none (madePlain (j .source) os) (recordCount (j .source))
       (λ k h.
       both-neither (isMade (at os k)) (leadsToFormat 4 (j .source) k) (leadsToFormat 12 (j .source) k)
-      (first-before (makes j os 4) 64 k (omega arith) (omega arith))
-      (first-before (makes j os 12) 64 k (omega arith) (omega arith))) in
+      (first-before (makes j os 4) (length os) k (omega arith) (omega arith))
+      (first-before (makes j os 12) (length os) k (omega arith) (omega arith))) in
       false-true (sym f ∙ e)
 
   pub new-found : (c : ℕ) → numberOf (newAnswer j os c) ≡ 0
   unfolding answerBy
   new-found c =
-      let r = first (makes j os 12) 64 0 in
-      let q = first (makes j os 4) 64 0 in
-      by-leb (numberOf (newAnswer j os c) ≡ 0) 64 r
+      let r = first (makes j os 12) (length os) 0 in
+      let q = first (makes j os 4) (length os) 0 in
+      by-leb (numberOf (newAnswer j os c) ≡ 0) (length os) r
       (λ a.
-      by-leb (numberOf (newAnswer j os c) ≡ 0) 64 q
+      by-leb (numberOf (newAnswer j os c) ≡ 0) (length os) q
       (λ b. absurd (not-lost b a))
       (λ b.
       ap numberOf
-      (sym (else-lt r 64 (Glyph (listedGlyph (listedOf j r) c)) (oldAnswer j os c) a (if-lt q 64 (Glyph (listedGlyph (listedOf j q) c)) (Refused 11) b refl)))))
-      (λ a. ap numberOf (sym (if-lt r 64 (Glyph (listedGlyph (listedOf j r) c)) (oldAnswer j os c) a refl)))
+      (sym (else-lt r (length os) (Glyph (listedGlyph (listedOf j r) c)) (oldAnswer j os c) a (if-lt q (length os) (Glyph (listedGlyph (listedOf j q) c)) (Refused 11) b refl)))))
+      (λ a. ap numberOf (sym (if-lt r (length os) (Glyph (listedGlyph (listedOf j r) c)) (oldAnswer j os c) a refl)))
 
 -- ---- the theorem
 
@@ -116,7 +119,7 @@ module _ (j : Job) (bytes : Bytes (j .source)) (accepted : refusalOf j ≡ 0) wh
   job-length = length-result j (plan j) (job-sound .made)
 
   -- a written record leads to the table of the first record that made one of its format
-  pub job-maker : (k : ℕ) → isWritten (at (plan j) k) ≡ true → makerOf (at (plan j) k) k ≡ first (makes j (plan j) (formatOf (leadsTo (j .source) k))) 64 0
+  pub job-maker : (k : ℕ) → isWritten (at (plan j) k) ≡ true → makerOf (at (plan j) k) k ≡ first (makes j (plan j) (formatOf (leadsTo (j .source) k))) (length (plan j)) 0
   job-maker k w =
       let m = maker-of j (plan j) job-sound k w in
       sym (first-maker j limits records-few (makerOf (at (plan j) k) k) (formatOf (leadsTo (j .source) k)) (m .maker) (m .alike))
@@ -130,7 +133,7 @@ module _ (j : Job) (bytes : Bytes (j .source)) (accepted : refusalOf j ≡ 0) wh
 
     -- the new head always answers
     pub new-answers : numberOf (newHead (resultOf j (plan j)) c) ≡ 0
-    new-answers = ap numberOf new-gives ∙ new-found j (plan j) records-few (passed j accepted .some) c
+    new-answers = ap numberOf new-gives ∙ new-found j (plan j) (omega (arith, length-plan j)) (passed j accepted .some) c
 
     pub old-prints : Prints j c (oldHead (resultOf j (plan j)) c)
     old-prints = rw old-gives (old-may j (plan j) c)

@@ -7,11 +7,11 @@ use Rattle.source.specs.Kind.{formatOf}
 use Rattle.source_records.specs.Records.{leadsTo}
 use Rattle.plan_listing.specs.Job.{Job}
 use Rattle.heads_lookup.specs.Lookup.{lookup4, lookup12}
-use Rattle.plan.specs.Outcomes.{madeSize}
+use Rattle.plan.specs.Sizes.{madeSize}
 use Rattle.plan.specs.Plan.{plan}
 use Rattle.result.specs.Lent.{Lent}
 use Rattle.result.proofs.TablesLaws.{made-format, made-finds4, made-finds12}
-use Rattle.result.specs.Result.{at}
+use Rattle.plan.specs.Outcomes.{at}
 use Rattle.result.proofs.SoundLaws.{making as making-of}
 use Rattle.cmap_answers.proofs.AnswersLaws.{Reads}
 

@@ -1,10 +1,10 @@
 -- What the heads are to give of a job's result, told by the job alone (docs/01-rules.md, "Heads", "Records").
 use Prim.Native.Nat.{ℕ}
 use mathlib.Core.List.{List}
+use lib.ListN.{length}
 use Rattle.laws.specs.Choice.{ifLt}
 use Rattle.laws.specs.Listed.{listedGlyph}
 use Rattle.laws.specs.Search.{first}
-use Rattle.number.specs.Limits.{recordsMax}
 use Rattle.plan_listing.specs.Job.{Job}
 use Rattle.heads.specs.declared.Answer.{Answer}
 use Rattle.heads.specs.declared.Answer.the-variants.{Glyph, Refused}
@@ -15,8 +15,8 @@ use Rattle.result.specs.Result.{makes}
 -- the first record that made a table of that format decides: c's glyph among the listed pairs that its subtable maps, 0 where there is none
 unfoldable pub answerBy : ℕ → Job → List Outcome → ℕ → Answer → Answer
 answerBy format j os c other =
-    let r = first (makes j os format) recordsMax 0 in
-    ifLt r recordsMax (Glyph (listedGlyph (listedOf j r) c)) other
+    let r = first (makes j os format) (length os) 0 in
+    ifLt r (length os) (Glyph (listedGlyph (listedOf j r) c)) other
 
 -- old: by format 4; 11 where no record made one
 abbrev pub oldAnswer : Job → List Outcome → ℕ → Answer

@@ -8,11 +8,12 @@ use Rattle.source_header.specs.Header.{recordCount}
 use Rattle.source_header.proofs.HeaderLaws.{Accepted, accepted-of}
 use Rattle.plan_listing.specs.Job.{Job, job}
 use Rattle.plan.specs.declared.Outcome.{Outcome}
-use Rattle.plan.specs.Outcomes.{Small}
+use Rattle.plan.specs.Sizes.{Small}
 use Rattle.plan.specs.Plan.{plan}
 use Rattle.result.specs.Refusal.{earlyRefusal}
 use Rattle.result.proofs.RefusalLaws.{early-passed}
 use Rattle.cmap_concluding.specs.Concluding.{Passing, Planned, Concludes}
+use Rattle.plan.specs.Notes.{outcomesIn, Fronted}
 
 module _ (s cs gs ks ms rs : List ℕ) where
   abbrev j : Job
@@ -28,18 +29,10 @@ module _ (s cs gs ks ms rs : List ℕ) where
     pub source-long : 4 ≤ length s
     source-long = omega (arith, header .fits)
 
-    pub planned : (os : List Outcome) → os ≡ plan j → Small os → Planned j os
-    planned os e q = record { passing = p; is = e; small = q }
+    pub planned : (notes : List ℕ) → outcomesIn (recordCount s) notes ≡ plan j → Small (outcomesIn (recordCount s) notes) → Fronted s (length ms) cs gs notes → Planned j notes
+    planned notes e q f = record { passing = p; is = e; told = record { few = header .few; long = omega (arith, header .few, f .long); small = q } }
 
-  pub planned-settled : (os : List Outcome) → Planned j os → Concludes s os
-  planned-settled os p = record {
-    counted = record { is = refl; inside = header (p .passing) .fits };
-    few = header (p .passing) .few;
-    small = p .small;
-  }
+  pub planned-settled : (notes : List ℕ) → Planned j notes → Concludes s notes
+  planned-settled notes p = record { counted = record { is = refl; inside = header (p .passing) .fits }; told = p .told }
 
 pub ruleset passing = (passes, source-long, planned, planned-settled)
-
--- the same for records alone
-pub settled-long : (s : List ℕ) (os : List Outcome) → Concludes s os → 4 ≤ length s
-settled-long s os t = omega (arith, t .counted .inside)

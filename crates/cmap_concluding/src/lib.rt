@@ -3,36 +3,33 @@ use cmap_promise::Answer;
 use cmap_promise::Fate;
 use cmap_promise::FateKind;
 use plan::Outcome;
+use plan::Why;
 ghost use mathlib.Core.Path.{_≡_};
-ghost use Prim.Native.Nat.{_≤_, _<_};
-ghost use lib.ListN.{length};
+ghost use Prim.Native.Nat.{_<_, _≤_};
 ghost use Rattle.source_header.specs.Header.{recordCount};
-ghost use Rattle.cmap_concluding.specs.Concluding.{Concludes, answerBy};
-ghost use Rattle.plan.specs.Outcomes.{Small};
-ghost use Rattle.result.specs.Result.{offsetOf};
+ghost use Rattle.plan.specs.Notes.{outcomesIn};
+ghost use Rattle.result.specs.Layout.{placeOf};
+ghost use Rattle.result_layout.specs.Counts.{Told};
 ghost use Rattle.cmap_promise.specs.declared.FateKind.the-variants.{WrittenAt};
-ghost use Rattle.cmap_promise.specs.Fates.{kindOf, noFate};
-ghost use Rattle.cmap_concluding.specs.Found.{fateBy, Kinds, Found};
+ghost use Rattle.cmap_promise.specs.Fates.{leftOutAs, kindOf, noFate};
+ghost use Rattle.cmap_concluding.specs.Concluding.{Concludes, answerBy};
+ghost use Rattle.cmap_concluding.specs.Found.{fateBy, Found};
+ghost use Rattle.plan.specs.Outcomes.{at};
 
-pub fn record_count(s: &[u8]) -> usize
-    requires { ⌜ 4 ≤ length (now s) ⌝ }
-    ensures { λ r. ⌜ r ≡ recordCount (now (s .entry)) ⌝ }
-{
-    number::u16_at(s, 2) as usize
-}
+// ---- the answer
 
 // The answer, where the output has room for so many bytes.
-pub fn answer_by(s: &[u8], os: [Outcome; 64], room: usize) -> Answer
-    requires { ⌜ Concludes (now s) os ⌝ }
-    ensures { λ r. ⌜ r ≡ answerBy (now (s .entry)) os room ⌝ }
+pub fn answer_by(s: &[u8], notes: &[usize], room: usize) -> Answer
+    requires { ⌜ Concludes (now s) (now notes) ⌝ }
+    ensures { λ r. ⌜ r ≡ answerBy (now (s .entry)) (outcomesIn (recordCount (now (s .entry))) (now (notes .entry))) room ⌝ }
 {
-    let m = record_count(s);
-    let late = cmap_refusals::late_refusal(s, m, os);
+    let m = source_header::record_count(s);
+    let late = cmap_refusals::late_refusal(s, m, notes);
     if 0 < late {
         return Answer::Refused(late);
     }
-    let count = result_layout::count_written(os);
-    let needed = result_layout::result_length(os, count);
+    let count = result_layout::count_written(notes, m);
+    let needed = result_layout::result_length(notes, m, count);
     if room < needed {
         return Answer::NoRoom(needed);
     }
@@ -41,6 +38,8 @@ pub fn answer_by(s: &[u8], os: [Outcome; 64], room: usize) -> Answer
         records: count,
     }
 }
+
+// ---- a fate
 
 // A fate of no record: platform and encoding are 0.
 pub fn no_fate(kind: FateKind) -> Fate
@@ -53,39 +52,49 @@ pub fn no_fate(kind: FateKind) -> Fate
     }
 }
 
-fn written_at(os: [Outcome; 64], k: usize) -> FateKind
-    requires { ⌜ Small os ⌝ }
-    requires { ⌜ k < 64 ⌝ }
-    ensures { λ r. ⌜ r ≡ WrittenAt (offsetOf os k) ⌝ }
+fn left_out_as(why: Why) -> FateKind
+    ensures { λ r. ⌜ r ≡ leftOutAs why ⌝ }
 {
-    let count = result_layout::count_written(os);
-    FateKind::WrittenAt(result_layout::offset_of(os, k, count))
+    match why {
+        Why::NotRetained => FateKind::NotRetained,
+        Why::Skipped => FateKind::Skipped,
+        Why::Empty => FateKind::Empty,
+        Why::TooLong => FateKind::TooLong,
+        Why::Covered => FateKind::Covered,
+    }
 }
 
-// What became of record k, of which the plan says o.
-fn kind_of(os: [Outcome; 64], o: Outcome, k: usize) -> FateKind
-    requires { ⌜ Kinds os o k ⌝ }
-    ensures { λ r. ⌜ r ≡ kindOf os o k ⌝ }
+fn written_at(notes: &[usize], m: usize, k: usize) -> FateKind
+    requires { ⌜ Told m (now notes) ⌝ }
+    requires { ⌜ k < m ⌝ }
+    ensures { λ r. ⌜ r ≡ WrittenAt (placeOf (outcomesIn m (now (notes .entry))) k) ⌝ }
 {
-    match o {
-        Outcome::NotRetained => FateKind::NotRetained,
-        Outcome::Skipped => FateKind::Skipped,
-        Outcome::Empty => FateKind::Empty,
-        Outcome::TooLong => FateKind::TooLong,
-        Outcome::Covered => FateKind::Covered,
+    let count = result_layout::count_written(notes, m);
+    FateKind::WrittenAt(result_layout::offset_of(notes, m, k, count))
+}
+
+// What became of record k of m.
+fn kind_of(notes: &[usize], m: usize, k: usize) -> FateKind
+    requires { ⌜ Found m (now notes) ⌝ }
+    requires { ⌜ k < m ⌝ }
+    ensures { λ r. ⌜ (let os = outcomesIn m (now (notes .entry)) in r ≡ kindOf (placeOf os) (at os k) k) ⌝ }
+{
+    match plan_outcomes::outcome_at(notes, k) {
+        Outcome::LeftOut(why) => left_out_as(why),
         Outcome::BadMapping => FateKind::Refused(8),
-        Outcome::Served(by) => written_at(os, by),
-        Outcome::Made(_) => written_at(os, k),
+        Outcome::Served(by) => written_at(notes, m, by),
+        Outcome::Made(_) => written_at(notes, m, k),
     }
 }
 
 // Refusals 8 and 9, then what became of record k.
-pub fn fate_by(s: &[u8], os: [Outcome; 64], k: usize) -> Fate
-    requires { ⌜ Found (now s) os ⌝ }
-    ensures { λ r. ⌜ r ≡ fateBy (now (s .entry)) os k ⌝ }
+pub fn fate_by(s: &[u8], notes: &[usize], k: usize) -> Fate
+    requires { ⌜ Concludes (now s) (now notes) ⌝ }
+    requires { ⌜ Found (recordCount (now s)) (now notes) ⌝ }
+    ensures { λ r. ⌜ r ≡ fateBy (now (s .entry)) (outcomesIn (recordCount (now (s .entry))) (now (notes .entry))) k ⌝ }
 {
-    let m = record_count(s);
-    let late = cmap_refusals::late_refusal(s, m, os);
+    let m = source_header::record_count(s);
+    let late = cmap_refusals::late_refusal(s, m, notes);
     if 0 < late {
         return no_fate(FateKind::Refused(late));
     }
@@ -93,7 +102,7 @@ pub fn fate_by(s: &[u8], os: [Outcome; 64], k: usize) -> Fate
         return no_fate(FateKind::NoSuchRecord);
     }
     let record = source_records::encoding_record(s, k);
-    let kind = kind_of(os, os[k], k);
+    let kind = kind_of(notes, m, k);
     Fate {
         platform: record.platform,
         encoding: record.encoding,

@@ -7,28 +7,33 @@ use native.Mathlib.Omega.{arith}
 use lib.Dec.{ltb, eqb}
 use lib.ListN.{length, getD, take, drop, length-append}
 use lib.Seq.{take-at}
-use borrow.Author.Tests.{eqb-true, ltb-true, ltb-false, ne-eqb}
+use borrow.Author.Tests.{eqb-true, eqb-false, eq-eqb, ltb-true, ltb-false, le-ltb}
 use Rattle.laws.specs.Choice.{pick}
 use Rattle.laws.specs.Lists.{laid}
 use Rattle.laws.proofs.ChoiceLaws.{by-pick, by-leb, false-true}
+use Rattle.laws.proofs.AnyLaws.{anyOf-some}
 use Rattle.laws.proofs.SomeLaws.{some-false}
+use Rattle.plan.proofs.OutcomesLaws.{length-plan}
 use Rattle.number.specs.Limits.{recordsMax}
 use Rattle.source_header.specs.Header.{recordCount}
 use Rattle.source_header.proofs.HeaderLaws.{accepted-of}
 use Rattle.plan_listing.specs.Job.{Job}
 use Rattle.plan.specs.declared.Outcome.{Outcome}
-use Rattle.plan.specs.declared.Outcome.the-variants.{NotRetained, Skipped, Empty, TooLong, Covered, BadMapping, Served, Made}
+use Rattle.plan.specs.declared.Why.{Why}
+use Rattle.plan.specs.declared.Why.the-variants.{NotRetained, Skipped, Empty, TooLong, Covered}
+use Rattle.plan.specs.declared.Outcome.the-variants.{LeftOut, BadMapping, Served, Made}
 use Rattle.plan.specs.Outcomes.{isBad}
 use Rattle.plan.specs.Plan.{plan, refused8}
-use Rattle.result.specs.Result.{at, written}
+use Rattle.result.specs.Result.{written, offsetOf}
+use Rattle.plan.specs.Outcomes.{at}
 use Rattle.result.specs.Refusal.{Case, firstOf, refusalOf, rises}
 use Rattle.result.proofs.RefusalLaws.{Given, given-exactly, Accepted, accepted-exactly, passed}
 use Rattle.cmap_promise.specs.declared.Answer.{Answer}
 use Rattle.cmap_promise.specs.declared.Answer.the-variants.{Written, Refused, NoRoom}
 use Rattle.cmap_promise.specs.declared.Fate.{Fate}
 use Rattle.cmap_promise.specs.declared.FateKind.the-variants.{Refused as FateRefused, NoSuchRecord}
-use Rattle.cmap_promise.specs.Fates.{numberOf as fateNumberOf, kindOf, recordFate, noFate, fateOf}
-use Rattle.cmap_promise.specs.Cmap.{numberOf, lengthOf, result, refusalsIn, numberIn, answerOf, outputOf}
+use Rattle.cmap_promise.specs.Fates.{numberOf as fateNumberOf, leftOutAs, kindOf, recordFate, noFate, fateOf}
+use Rattle.cmap_promise.specs.Cmap.{numberOf, lengthOf, result, refusalsIn, numberIn, answerOf, leaves, outputOf}
 use Rattle.cmap_promise.proofs.NumberLaws.{number-refused, number-passed}
 
 -- ---- the number
@@ -53,12 +58,15 @@ accepted-exactly-in j room = accepted-exactly (refusalsIn j room) (all-rise j ro
 pub number-answered : (j : Job) (room : ℕ) → numberOf (answerOf j room) ≡ numberIn j room
 unfolding answerOf
 number-answered j room =
-    let n = numberIn j room in
     let accepted = Written (length (result j)) (written (plan j)) in
     let short = NoRoom (length (result j)) in
-    by-pick (λ a. numberOf a ≡ n) (eqb n 0) accepted (pick (eqb n 10) short (Refused n))
-    (λ e. sym (eqb-true n 0 e))
-    (λ e. by-pick (λ a. numberOf a ≡ n) (eqb n 10) short (Refused n) (λ f. sym (eqb-true n 10 f)) (λ f. refl))
+    by-pick (λ a. numberOf a ≡ numberIn j room) (eqb (refusalOf j) 0) (pick (ltb room (length (result j))) short accepted) (Refused (refusalOf j))
+    (λ z.
+    let e = number-passed j room (eqb-true (refusalOf j) 0 z) in
+    by-pick (λ a. numberOf a ≡ numberIn j room) (ltb room (length (result j))) short accepted (λ t. rw (e, t) refl) (λ t. rw (e, t) refl))
+    (λ z.
+    let n = eqb-false (refusalOf j) 0 z in
+    sym (number-refused j room (omega (arith, n))))
 
 -- ---- an acceptance
 
@@ -77,14 +85,24 @@ accepted-fits j room e =
     go true f = absurd (omega arith)
     go false f = refl
 
+accepted-answer : (j : Job) (room : ℕ) → numberIn j room ≡ 0 → answerOf j room ≡ Written (length (result j)) (written (plan j))
+unfolding answerOf
+accepted-answer j room e = rw (eq-eqb (refusalOf j) 0 (accepted-passed j room e), le-ltb room (length (result j)) (accepted-fits j room e)) refl
+
+-- an answer with a number leaves the output
+number-keeps : (a : Answer) (new out : List ℕ) → 0 < numberOf a → leaves a new out ≡ out
+number-keeps (Written bytes records) new out h = absurd (omega arith)
+number-keeps (Refused number) new out h = refl
+number-keeps (NoRoom bytes) new out h = refl
+
 module _ (j : Job) (out : List ℕ) where
   pub accepted-output : numberIn j (length out) ≡ 0 → outputOf j out ≡ laid (result j) out
   unfolding outputOf
-  accepted-output e = rw e
+  accepted-output e = rw (accepted-answer j (length out) e) refl
 
   pub refused-output : 0 < numberIn j (length out) → outputOf j out ≡ out
   unfolding outputOf
-  refused-output h = rw (ne-eqb (numberIn j (length out)) 0 (λ z. omega (arith, h, z)))
+  refused-output h = number-keeps (answerOf j (length out)) (result j) out (omega (arith, h, number-answered j (length out)))
 
   module _ (n k : ℕ) (w : answerOf j (length out) ≡ Written n k) where
     accepted : numberIn j (length out) ≡ 0
@@ -95,10 +113,7 @@ module _ (j : Job) (out : List ℕ) where
     written-passed = accepted-passed j (length out) accepted
 
     pub written-length : n ≡ length (result j)
-    unfolding answerOf
-    written-length =
-        let f : answerOf j (length out) ≡ Written (length (result j)) (written (plan j)) = rw accepted in
-        ap lengthOf (sym w ∙ f)
+    written-length = ap lengthOf (sym w ∙ accepted-answer j (length out) accepted)
 
     -- what is written stands in the first places
     pub written-fits : n ≤ length (outputOf j out)
@@ -126,15 +141,18 @@ allowed-once {j} {out} x y = (once (answerOf j (length out)) (x .answer) (y .ans
 
 -- ---- the number of a fate
 
-kind-number : (os : List Outcome) (o : Outcome) (k : ℕ) → isBad o ≡ false → fateNumberOf (kindOf os o k) ≡ 0
-kind-number os NotRetained k e = refl
-kind-number os Skipped k e = refl
-kind-number os Empty k e = refl
-kind-number os TooLong k e = refl
-kind-number os Covered k e = refl
-kind-number os BadMapping k e = absurd (false-true (sym e))
-kind-number os (Served by) k e = refl
-kind-number os (Made size) k e = refl
+why-number : (why : Why) → fateNumberOf (leftOutAs why) ≡ 0
+why-number NotRetained = refl
+why-number Skipped = refl
+why-number Empty = refl
+why-number TooLong = refl
+why-number Covered = refl
+
+kind-number : (offset : ℕ → ℕ) (o : Outcome) (k : ℕ) → isBad o ≡ false → fateNumberOf (kindOf offset o k) ≡ 0
+kind-number offset (LeftOut why) k e = why-number why
+kind-number offset BadMapping k e = absurd (false-true (sym e))
+kind-number offset (Served by) k e = refl
+kind-number offset (Made size) k e = refl
 
 -- it is the job's refusal, and 0 where there is none: refusal 8 leaves no bad mapping
 pub fate-number : (j : Job) (k : ℕ) → fateNumberOf (fateOf j k .kind) ≡ refusalOf j
@@ -142,15 +160,14 @@ unfolding fateOf refused8
 fate-number j k =
     let os = plan j in
     let count = recordCount (j .source) in
+    let fate = recordFate (offsetOf j os) (j .source) os k in
     let P : Fate → Type 0 = λ f. fateNumberOf (f .kind) ≡ refusalOf j in
-    by-pick P (eqb (refusalOf j) 0) (pick (ltb k count) (recordFate (j .source) os k) (noFate NoSuchRecord)) (noFate (FateRefused (refusalOf j)))
+    by-pick P (eqb (refusalOf j) 0) (pick (ltb k count) fate (noFate NoSuchRecord)) (noFate (FateRefused (refusalOf j)))
     (λ e.
     let z = eqb-true (refusalOf j) 0 e in
-    let p = passed j z in
-    let few = accepted-of (j .source) (p .header) .few in
-    by-pick P (ltb k count) (recordFate (j .source) os k) (noFate NoSuchRecord)
+    let none = sym (anyOf-some isBad (LeftOut NotRetained) os) ∙ passed j z .mappings in
+    by-pick P (ltb k count) fate (noFate NoSuchRecord)
     (λ l.
-    let h = ltb-true k count l in
-    kind-number os (at os k) k (some-false (λ i. isBad (getD os i NotRetained)) recordsMax 0 (p .mappings) k (omega arith) (omega (arith, h, few))) ∙ sym z)
+    kind-number (offsetOf j os) (at os k) k (some-false (λ i. isBad (at os i)) (length os) 0 none k (omega arith) (omega (arith, ltb-true k count l, length-plan j))) ∙ sym z)
     (λ l. sym z))
     (λ e. refl)

@@ -2,6 +2,7 @@
 use Prim.Native.Nat.{ℕ, _<_, _≤_}
 use mathlib.Core.Path.{_≡_, refl, sym, ap, _∙_}
 use mathlib.Core.List.{List}
+use lib.ListN.{length}
 use mathlib.Core.Bool.{Bool, true, false}
 use native.Mathlib.Nat.{zero-add}
 use borrow.Author.Tests.{eq-eqb, lt-ltb}
@@ -16,15 +17,18 @@ use Rattle.source_header.proofs.HeaderLaws.{accepted-of, gives-records}
 use Rattle.source_records.specs.Records.{leadsTo}
 use Rattle.plan_listing.specs.Job.{Job}
 use Rattle.plan.specs.declared.Outcome.{Outcome}
-use Rattle.plan.specs.declared.Outcome.the-variants.{NotRetained, Skipped, Empty, TooLong, Covered, BadMapping, Served, Made}
-use Rattle.plan.specs.Outcomes.{madeSize}
+use Rattle.plan.specs.declared.Why.{Why}
+use Rattle.plan.specs.declared.Why.the-variants.{NotRetained, Skipped, Empty, TooLong, Covered}
+use Rattle.plan.specs.declared.Outcome.the-variants.{LeftOut, BadMapping, Served, Made}
+use Rattle.plan.specs.Sizes.{madeSize}
 use Rattle.plan.specs.Fresh.{tableOf}
 use Rattle.plan.specs.Plan.{plan}
 use Rattle.result.specs.Lent.{Lent}
 use Rattle.result.proofs.LentLaws.{lent}
 use Rattle.result.proofs.TablesLaws.{made-format}
 use Rattle.result.proofs.PlanLaws.{plan-past}
-use Rattle.result.specs.Result.{isWritten, makerOf, at, countFrom, written, offsetOf}
+use Rattle.result.specs.Result.{countFrom, written, offsetOf}
+use Rattle.plan.specs.Outcomes.{isWritten, makerOf, at}
 use Rattle.result.specs.Refusal.{refusalOf}
 use Rattle.result.proofs.CountLaws.{count-one, count-find}
 use Rattle.result.proofs.PlacesLaws.{Sound, accepted-result, maker-of, entry-written, written-below, table-stands}
@@ -34,7 +38,7 @@ use Rattle.cmap_promise.specs.declared.Fate.{Fate}
 use Rattle.cmap_promise.specs.declared.FateKind.{FateKind}
 use Rattle.cmap_promise.specs.declared.FateKind.the-variants.{NotRetained as FateNotRetained, Skipped as FateSkipped, Empty as FateEmpty, TooLong as FateTooLong, Covered as FateCovered, WrittenAt, Refused, NoSuchRecord}
 use Rattle.cmap_promise.specs.Cmap.{result}
-use Rattle.cmap_promise.specs.Fates.{kindOf, recordFate, fateOf}
+use Rattle.cmap_promise.specs.Fates.{leftOutAs, kindOf, recordFate, fateOf}
 
 -- record k of the source stands in the result, and leads to a readable table of its own format at the offset: the one that its maker made
 pub record ReadsBack (j : Job) (k offset : ℕ) : Type 0 where
@@ -70,25 +74,24 @@ offsetIn FateCovered = 0
 offsetIn (Refused number) = 0
 offsetIn NoSuchRecord = 0
 
-written-kind : (os : List Outcome) (o : Outcome) (k : ℕ) → isWritten o ≡ true → kindOf os o k ≡ WrittenAt (offsetOf os (makerOf o k))
-written-kind os NotRetained k e = absurd (false-true e)
-written-kind os Skipped k e = absurd (false-true e)
-written-kind os Empty k e = absurd (false-true e)
-written-kind os TooLong k e = absurd (false-true e)
-written-kind os Covered k e = absurd (false-true e)
-written-kind os BadMapping k e = absurd (false-true e)
-written-kind os (Served by) k e = refl
-written-kind os (Made size) k e = refl
+written-kind : (offset : ℕ → ℕ) (o : Outcome) (k : ℕ) → isWritten o ≡ true → kindOf offset o k ≡ WrittenAt (offset (makerOf o k))
+written-kind offset (LeftOut why) k e = absurd (false-true e)
+written-kind offset BadMapping k e = absurd (false-true e)
+written-kind offset (Served by) k e = refl
+written-kind offset (Made size) k e = refl
 
-kind-written : (os : List Outcome) (o : Outcome) (k : ℕ) → isWrittenAt (kindOf os o k) ≡ true → isWritten o ≡ true
-kind-written os NotRetained k e = e
-kind-written os Skipped k e = e
-kind-written os Empty k e = e
-kind-written os TooLong k e = e
-kind-written os Covered k e = e
-kind-written os BadMapping k e = e
-kind-written os (Served by) k e = refl
-kind-written os (Made size) k e = refl
+left-out : (why : Why) → isWrittenAt (leftOutAs why) ≡ false
+left-out NotRetained = refl
+left-out Skipped = refl
+left-out Empty = refl
+left-out TooLong = refl
+left-out Covered = refl
+
+kind-written : (offset : ℕ → ℕ) (o : Outcome) (k : ℕ) → isWrittenAt (kindOf offset o k) ≡ true → isWritten o ≡ true
+kind-written offset (LeftOut why) k e = absurd (false-true (sym (left-out why) ∙ e))
+kind-written offset BadMapping k e = e
+kind-written offset (Served by) k e = refl
+kind-written offset (Made size) k e = refl
 
 module _ (j : Job) (bytes : Bytes (j .source)) (accepted : refusalOf j ≡ 0) where
   limits : Lent j
@@ -104,21 +107,21 @@ module _ (j : Job) (bytes : Bytes (j .source)) (accepted : refusalOf j ≡ 0) wh
   pub result-header : headerOf (result j) ≡ Records (written (plan j))
   result-header = sym (gives-records (result j) (accepted-result j (plan j) sound))
 
-  fate-is : (k : ℕ) → k < recordCount (j .source) → fateOf j k ≡ recordFate (j .source) (plan j) k
+  fate-is : (k : ℕ) → k < recordCount (j .source) → fateOf j k ≡ recordFate (offsetOf j (plan j)) (j .source) (plan j) k
   unfolding fateOf
   fate-is k h = rw (eq-eqb (refusalOf j) 0 accepted, lt-ltb k (recordCount (j .source)) h) refl
 
   inside-count : (k : ℕ) → isWritten (at (plan j) k) ≡ true → k < recordCount (j .source)
   inside-count k w =
       by-leb (k < recordCount (j .source)) (recordCount (j .source)) k
-      (λ h. absurd (false-true (rw (plan-past j few k h) at w)))
+      (λ h. absurd (false-true (rw (plan-past j k h) at w)))
       (λ h. h)
 
   -- the fate of a record that is written
-  pub written-fate : (k : ℕ) → isWritten (at (plan j) k) ≡ true → fateOf j k .kind ≡ WrittenAt (offsetOf (plan j) (makerOf (at (plan j) k) k))
-  written-fate k w = ap (λ (r : Fate). r .kind) (fate-is k (inside-count k w)) ∙ written-kind (plan j) (at (plan j) k) k w
+  pub written-fate : (k : ℕ) → isWritten (at (plan j) k) ≡ true → fateOf j k .kind ≡ WrittenAt (offsetOf j (plan j) (makerOf (at (plan j) k) k))
+  written-fate k w = ap (λ (r : Fate). r .kind) (fate-is k (inside-count k w)) ∙ written-kind (offsetOf j (plan j)) (at (plan j) k) k w
 
-  back : (k : ℕ) → isWritten (at (plan j) k) ≡ true → ReadsBack j k (offsetOf (plan j) (makerOf (at (plan j) k) k))
+  back : (k : ℕ) → isWritten (at (plan j) k) ≡ true → ReadsBack j k (offsetOf j (plan j) (makerOf (at (plan j) k) k))
   unfolding leadsTo
   back k w =
       let os = plan j in
@@ -129,7 +132,7 @@ module _ (j : Job) (bytes : Bytes (j .source)) (accepted : refusalOf j ≡ 0) wh
       let z = zero-add k in
       record {
         place = countFrom os k 0;
-        inside = count-one os 64 0 k (written-below j os sound k w) (rw z w);
+        inside = count-one os (length os) 0 k (written-below j os sound k w) (rw z w);
         platform = e .platform;
         encoding = e .encoding;
         leads = e .offset;
@@ -143,9 +146,9 @@ module _ (j : Job) (bytes : Bytes (j .source)) (accepted : refusalOf j ≡ 0) wh
   pub fate-reads-back : (k offset : ℕ) → k < recordCount (j .source) → fateOf j k .kind ≡ WrittenAt offset → ReadsBack j k offset
   fate-reads-back k offset h f =
       let os = plan j in
-      let q : kindOf os (at os k) k ≡ WrittenAt offset = ap (λ (r : Fate). r .kind) (sym (fate-is k h)) ∙ f in
-      let w = kind-written os (at os k) k (ap isWrittenAt q) in
-      let same : offsetOf os (makerOf (at os k) k) ≡ offset = ap offsetIn (sym (written-kind os (at os k) k w) ∙ q) in
+      let q : kindOf (offsetOf j os) (at os k) k ≡ WrittenAt offset = ap (λ (r : Fate). r .kind) (sym (fate-is k h)) ∙ f in
+      let w = kind-written (offsetOf j os) (at os k) k (ap isWrittenAt q) in
+      let same : offsetOf j os (makerOf (at os k) k) ≡ offset = ap offsetIn (sym (written-kind (offsetOf j os) (at os k) k w) ∙ q) in
       rw same at (back k w)
 
   -- and nothing else does: record i of the result is a record of the source whose fate says so
@@ -158,7 +161,7 @@ module _ (j : Job) (bytes : Bytes (j .source)) (accepted : refusalOf j ≡ 0) wh
   pub record-told : (i : ℕ) → i < written (plan j) → Told i
   record-told i h =
       let os = plan j in
-      let t = count-find os 64 0 i h in
+      let t = count-find os (length os) 0 i h in
       let k = t .place in
       let w : isWritten (at os k) ≡ true = rw (zero-add k) at (t .written) in
       let e = entry-written j os sound k w in

@@ -8,7 +8,7 @@ use Rattle.laws.specs.Lists.{laid}
 use Rattle.plan_listing.specs.Job.{Job}
 use Rattle.plan.specs.Plan.{plan}
 use Rattle.result.specs.Result.{written, resultOf}
-use Rattle.result.specs.Refusal.{Case, firstOf, refusals}
+use Rattle.result.specs.Refusal.{Case, firstOf, refusals, refusalOf}
 use Rattle.cmap_promise.specs.declared.Answer.{Answer}
 use Rattle.cmap_promise.specs.declared.Answer.the-variants.{Written, Refused, NoRoom}
 
@@ -35,19 +35,28 @@ recordsOf (NoRoom bytes) = 0
 abbrev pub result : Job → List ℕ
 result j = resultOf j (plan j)
 
+-- refused with 1 to 9; no room for the whole result; written
+unfoldable pub answerOf : Job → ℕ → Answer
+answerOf j room =
+    pick (eqb (refusalOf j) 0)
+    (pick (ltb room (length (result j))) (NoRoom (length (result j))) (Written (length (result j)) (written (plan j))))
+    (Refused (refusalOf j))
+
+-- a refusal writes nothing; an acceptance leaves the result, and then the rest as it was
+abbrev pub leaves : Answer → List ℕ → List ℕ → List ℕ
+leaves (Written bytes records) new out = laid new out
+leaves (Refused number) new out = out
+leaves (NoRoom bytes) new out = out
+
+unfoldable pub outputOf : Job → List ℕ → List ℕ
+outputOf j out = leaves (answerOf j (length out)) (result j) out
+
+-- ---- the numbers in their order
+
 -- 10: the whole result is longer than the output
 abbrev pub refusalsIn : Job → ℕ → List Case
 refusalsIn j room = refusals j ++ ((10, ltb room (length (result j))) ∷ [])
 
--- the number of the answer, with room for so many bytes; 0 is an acceptance
+-- the first that holds, with room for so many bytes; 0 is an acceptance
 unfoldable pub numberIn : Job → ℕ → ℕ
 numberIn j room = firstOf (refusalsIn j room)
-
-unfoldable pub answerOf : Job → ℕ → Answer
-answerOf j room =
-    pick (eqb (numberIn j room) 0) (Written (length (result j)) (written (plan j)))
-    (pick (eqb (numberIn j room) 10) (NoRoom (length (result j))) (Refused (numberIn j room)))
-
--- a refusal writes nothing; an acceptance leaves the result, and then the rest as it was
-unfoldable pub outputOf : Job → List ℕ → List ℕ
-outputOf j out = pick (eqb (numberIn j (length out)) 0) (laid (result j) out) out

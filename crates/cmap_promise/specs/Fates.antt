@@ -6,28 +6,35 @@ use Rattle.laws.specs.Choice.{pick}
 use Rattle.source_header.specs.Header.{recordCount, platformOf, encodingOf}
 use Rattle.plan_listing.specs.Job.{Job}
 use Rattle.plan.specs.declared.Outcome.{Outcome}
-use Rattle.plan.specs.declared.Outcome.the-variants.{NotRetained, Skipped, Empty, TooLong, Covered, BadMapping, Served, Made}
+use Rattle.plan.specs.declared.Why.{Why}
+use Rattle.plan.specs.declared.Why.the-variants.{NotRetained, Skipped, Empty, TooLong, Covered}
+use Rattle.plan.specs.declared.Outcome.the-variants.{LeftOut, BadMapping, Served, Made}
 use Rattle.plan.specs.Plan.{plan}
-use Rattle.result.specs.Result.{at, offsetOf}
+use Rattle.result.specs.Result.{offsetOf}
+use Rattle.plan.specs.Outcomes.{at}
 use Rattle.result.specs.Refusal.{refusalOf}
 use Rattle.cmap_promise.specs.declared.Fate.{Fate}
 use Rattle.cmap_promise.specs.declared.FateKind.{FateKind}
 use Rattle.cmap_promise.specs.declared.FateKind.the-variants.{NotRetained as FateNotRetained, Skipped as FateSkipped, Empty as FateEmpty, TooLong as FateTooLong, Covered as FateCovered, WrittenAt, Refused, NoSuchRecord}
 
--- a written record leads to its own table or to the one that serves it; a bad mapping is refused before any fate is told
-abbrev pub kindOf : List Outcome → Outcome → ℕ → FateKind
-kindOf os NotRetained k = FateNotRetained
-kindOf os Skipped k = FateSkipped
-kindOf os Empty k = FateEmpty
-kindOf os TooLong k = FateTooLong
-kindOf os Covered k = FateCovered
-kindOf os BadMapping k = Refused 8
-kindOf os (Served by) k = WrittenAt (offsetOf os by)
-kindOf os (Made size) k = WrittenAt (offsetOf os k)
+abbrev pub leftOutAs : Why → FateKind
+leftOutAs NotRetained = FateNotRetained
+leftOutAs Skipped = FateSkipped
+leftOutAs Empty = FateEmpty
+leftOutAs TooLong = FateTooLong
+leftOutAs Covered = FateCovered
+
+-- where each record's table stands at an offset: a written record leads to its own table or to the one that serves it; a bad mapping is
+-- refused before any fate is told
+abbrev pub kindOf : (ℕ → ℕ) → Outcome → ℕ → FateKind
+kindOf offset (LeftOut why) k = leftOutAs why
+kindOf offset BadMapping k = Refused 8
+kindOf offset (Served by) k = WrittenAt (offset by)
+kindOf offset (Made size) k = WrittenAt (offset k)
 
 -- record k's own, by the source and the plan
-abbrev pub recordFate : List ℕ → List Outcome → ℕ → Fate
-recordFate xs os k = record { platform = platformOf xs k; encoding = encodingOf xs k; kind = kindOf os (at os k) k }
+abbrev pub recordFate : (ℕ → ℕ) → List ℕ → List Outcome → ℕ → Fate
+recordFate offset xs os k = record { platform = platformOf xs k; encoding = encodingOf xs k; kind = kindOf offset (at os k) k }
 
 -- a refusal and "no such record" come with 0 and 0
 abbrev pub noFate : FateKind → Fate
@@ -37,7 +44,7 @@ noFate kind = record { platform = 0; encoding = 0; kind = kind }
 unfoldable pub fateOf : Job → ℕ → Fate
 fateOf j k =
     pick (eqb (refusalOf j) 0)
-    (pick (ltb k (recordCount (j .source))) (recordFate (j .source) (plan j) k) (noFate NoSuchRecord))
+    (pick (ltb k (recordCount (j .source))) (recordFate (offsetOf j (plan j)) (j .source) (plan j) k) (noFate NoSuchRecord))
     (noFate (Refused (refusalOf j)))
 
 -- the number of the answer: 0 but for a refusal

@@ -13,7 +13,7 @@ use Rattle.source_header.proofs.HeaderLaws.{accepted-of, not-refused, tells-rec
 use Rattle.source_records.specs.Records.{Counted}
 use Rattle.lists_checks.proofs.SizesLaws.{sizes, codes-rise, kept-rise, kept-low, requested-rise}
 use Rattle.plan_listing.specs.Job.{Job, glyphCount}
-use Rattle.plan.specs.Plan.{Prepared}
+use Rattle.plan.specs.Prepared.{Prepared}
 use Rattle.result.specs.Lent.{Lent}
 use Rattle.result.proofs.LentLaws.{lent}
 use Rattle.result.specs.Refusal.{listRefusals, sourceRefusals, earlyRefusal, rises}
@@ -55,7 +55,7 @@ early-lent j e b =
 pub early-prepared : (j : Job) (flags others tocodes toglyphs : List ℕ) → earlyRefusal j ≡ 0
     → length (j .codes) ≤ length flags → length (j .kept) ≤ length flags → length (j .kept) ≤ length others
     → length (j .codes) ≤ length tocodes → length (j .codes) ≤ length toglyphs
-    → Prepared j (recordCount (j .source)) flags others tocodes toglyphs
+    → Prepared j flags others tocodes toglyphs
 early-prepared j flags others tocodes toglyphs e cf kf ko ct gt =
     let p = early-passed j e in
     let s = sizes (length (j .source)) (length (j .codes)) (length (j .glyphs)) (length (j .kept)) (glyphCount j) (length (j .requested)) (p .sizes) in

@@ -1,4 +1,4 @@
--- Parts of the order of refusals, one for each function.
+-- Inner: parts of the order of refusals, one for each function; no promise names it.
 use Prim.Native.Nat.{ℕ}
 use mathlib.Core.List.{List, [], _∷_}
 use Rattle.source_records.specs.Records.{refused6, refused7}

@@ -1,5 +1,4 @@
 // The refusals in their order: 1 to 7 of what is lent, 8 and 9 of a plan.
-use plan::Outcome;
 use source_header::Header;
 ghost use mathlib.Core.Path.{_≡_};
 ghost use Rattle.laws.specs.Choice.{ifEq, either};
@@ -7,9 +6,10 @@ ghost use Rattle.source_records.specs.Records.{Counted, leadsToFormat, Placed};
 ghost use Rattle.plan_listing.specs.Job.{job};
 ghost use Rattle.result.specs.Refusal.{earlyRefusal, lateRefusal};
 ghost use Rattle.cmap_refusals.specs.Refusing.{listRefusal, sourceRefusal, formatRefusal};
-ghost use Prim.Native.Nat.{_≤_};
+ghost use Prim.Native.Nat.{_<_, _≤_};
+ghost use lib.ListN.{length};
+ghost use Rattle.plan.specs.Notes.{outcomesIn};
 ghost use Rattle.plan.specs.Plan.{refused8, refused9, madePlain};
-ghost use Rattle.cmap_refusals.specs.Inside.{Inside};
 
 // Refusals 1 to 4. That the points rise, which 3 asks for, and the bounds of n, which 4 asks for, are known by then.
 fn list_refusal(
@@ -96,26 +96,16 @@ pub fn early_refusal(
 }
 
 // Refusal 8.
-fn names_missing(os: [Outcome; 64]) -> bool
-    ensures { λ r. ⌜ r ≡ refused8 os ⌝ }
+fn names_missing(notes: &[usize], m: usize) -> bool
+    requires { ⌜ m ≤ length (now notes) ⌝ }
+    ensures { λ r. ⌜ r ≡ refused8 (outcomesIn m (now (notes .entry))) ⌝ }
 {
     let mut k = 0;
-    while k < 64 {
-        if plan_tests::is_bad(os[k]) {
+    while k < m {
+        if plan_outcomes::is_bad(plan_outcomes::outcome_at(notes, k)) {
             return true;
         }
         k += 1;
-    }
-    false
-}
-
-// Whether record k made a format 4 or 12 table.
-fn counts(s: &[u8], os: [Outcome; 64], k: usize) -> bool
-    requires { ⌜ Inside (now s) k ⌝ }
-    ensures { λ r. ⌜ r ≡ madePlain (now (s .entry)) os k ⌝ }
-{
-    if plan_tests::is_made(os[k]) {
-        return is_plain(s, k);
     }
     false
 }
@@ -131,15 +121,27 @@ fn is_plain(s: &[u8], k: usize) -> bool
     source_records::leads_to_format(s, k, 12)
 }
 
+// Whether record k of m made a format 4 or 12 table.
+fn made_plain(s: &[u8], m: usize, notes: &[usize], k: usize) -> bool
+    requires { ⌜ Placed (now s) k ⌝ }
+    requires { ⌜ (k < m) × (m ≤ length (now notes)) ⌝ }
+    ensures { λ r. ⌜ r ≡ madePlain (now (s .entry)) (outcomesIn m (now (notes .entry))) k ⌝ }
+{
+    if plan_outcomes::is_made(plan_outcomes::outcome_at(notes, k)) {
+        return is_plain(s, k);
+    }
+    false
+}
+
 // Refusal 9.
-fn lacks_plain(s: &[u8], m: usize, os: [Outcome; 64]) -> bool
+fn lacks_plain(s: &[u8], m: usize, notes: &[usize]) -> bool
     requires { ⌜ Counted (now s) m ⌝ }
-    requires { ⌜ m ≤ 64 ⌝ }
-    ensures { λ r. ⌜ r ≡ refused9 (now (s .entry)) os ⌝ }
+    requires { ⌜ m ≤ length (now notes) ⌝ }
+    ensures { λ r. ⌜ r ≡ refused9 (now (s .entry)) (outcomesIn m (now (notes .entry))) ⌝ }
 {
     let mut k = 0;
     while k < m {
-        if counts(s, os, k) {
+        if made_plain(s, m, notes, k) {
             return false;
         }
         k += 1;
@@ -147,16 +149,16 @@ fn lacks_plain(s: &[u8], m: usize, os: [Outcome; 64]) -> bool
     true
 }
 
-// Refusals 8 and 9 of a plan; 0 where neither holds.
-pub fn late_refusal(s: &[u8], m: usize, os: [Outcome; 64]) -> u8
+// Refusals 8 and 9 of a plan of m records; 0 where neither holds.
+pub fn late_refusal(s: &[u8], m: usize, notes: &[usize]) -> u8
     requires { ⌜ Counted (now s) m ⌝ }
-    requires { ⌜ m ≤ 64 ⌝ }
-    ensures { λ r. ⌜ r ≡ lateRefusal (now (s .entry)) os ⌝ }
+    requires { ⌜ m ≤ length (now notes) ⌝ }
+    ensures { λ r. ⌜ r ≡ lateRefusal (now (s .entry)) (outcomesIn m (now (notes .entry))) ⌝ }
 {
-    if names_missing(os) {
+    if names_missing(notes, m) {
         return 8;
     }
-    if lacks_plain(s, m, os) {
+    if lacks_plain(s, m, notes) {
         return 9;
     }
     0

@@ -1,51 +1,100 @@
--- The work room that planning leaves is enough to write in, and what it notes is what writing asks for.
-use Prim.Native.Nat.{ℕ}
-use mathlib.Core.Path.{_≡_, refl}
+-- From what planning leaves to the answer, to what writing asks for, and to a fate.
+use Prim.Native.Nat.{ℕ, _<_}
+use mathlib.Core.Path.{_≡_, refl, sym, ap, _∙_}
 use mathlib.Core.List.{List}
+use native.Mathlib.Omega.{arith}
 use lib.ListN.{length}
-use Rattle.source_header.specs.Header.{recordCount}
+use Rattle.source_header.specs.Header.{recordCount, platformOf, encodingOf}
 use Rattle.plan_listing.specs.Job.{Job, job}
 use Rattle.plan.specs.declared.Outcome.{Outcome}
-use Rattle.plan.specs.RecordNotes.{Fronted}
-use Rattle.plan.specs.Plan.{Prepared}
-use Rattle.plan.specs.Notes.{Endings}
+use Rattle.plan.specs.declared.Outcome.the-variants.{LeftOut, BadMapping, Served, Made}
+use Rattle.plan.specs.Outcomes.{at}
+use Rattle.plan.specs.Sizes.{Small}
+use Rattle.plan.specs.Plan.{plan}
+use Rattle.plan.specs.Prepared.{Prepared}
+use Rattle.plan.specs.Notes.{outcomesIn, Fronted, Endings}
 use Rattle.plan.proofs.PlanLaws.{prepared-again}
+use Rattle.result.specs.Result.{offsetOf}
+use Rattle.result.specs.Layout.{placeOf}
+use Rattle.result.proofs.LengthLaws.{offset-place}
+use Rattle.result.proofs.PlanLaws.{Serving, plan-served}
+use Rattle.result.proofs.RefusalLaws.{refusal-late}
 use Rattle.result_layout.specs.Counts.{Counts}
-use Rattle.result_writer.specs.Writing.{WritesPlan as Written, Noted}
-use Rattle.cmap_concluding.specs.Concluding.{Planned}
-use Rattle.cmap_rooms.specs.Carrying.{Enough}
+use Rattle.result_writer.specs.Writing.{WritesPlan}
+use Rattle.cmap_promise.specs.declared.Fate.{Fate}
+use Rattle.cmap_promise.specs.declared.FateKind.{FateKind}
+use Rattle.cmap_promise.specs.declared.FateKind.the-variants.{WrittenAt}
+use Rattle.cmap_promise.specs.Fates.{kindOf, recordFate, fateOf}
+use Rattle.cmap_concluding.specs.Concluding.{Passing, Planned, Concludes}
+use Rattle.cmap_concluding.specs.Found.{Found, fateBy}
+use Rattle.cmap_concluding.proofs.PassingLaws.{planned, planned-settled}
+use Rattle.cmap_concluding.proofs.AnswerLaws.{made-long}
+use Rattle.cmap_rooms.specs.Rooms.{Writes}
 
-module _ (j : Job) (flags tocodes toglyphs : List ℕ) where
-  -- planning leaves room to write in
-  pub still-enough : (fs ot tocs togs : List ℕ) → Prepared j (recordCount (j .source)) fs ot tocs togs → length flags ≡ length fs → length tocodes ≡ length tocs → length toglyphs ≡ length togs
-      → Enough j flags tocodes toglyphs
-  still-enough fs ot tocs togs p a b c =
-      let r = prepared-again j (recordCount (j .source)) fs ot tocs togs p flags ot tocodes toglyphs a refl b c in
-      record {
-        prepared = record {
-          counted = r .counted;
-          few-records = r .few-records;
-          glyph-count = r .glyph-count;
-          codes-rise = r .codes-rise;
-          few-pairs = r .few-pairs;
-          columns = r .columns;
-          source-small = r .source-small;
-          kept-rises = r .kept-rises;
-          kept-few = r .kept-few;
-          kept-low = r .kept-low;
-          requested-rises = r .requested-rises;
-          code-flags = r .code-flags;
-          kept-flags = r .kept-flags;
-          kept-others = r .kept-flags;
-        };
-      }
+-- a fate by offsets that agree
+kind-alike : (here there : ℕ → ℕ) (o : Outcome) (k : ℕ) → ((i : ℕ) → here i ≡ there i) → kindOf here o k ≡ kindOf there o k
+kind-alike here there (LeftOut why) k h = refl
+kind-alike here there BadMapping k h = refl
+kind-alike here there (Served by) k h = ap WrittenAt (h by)
+kind-alike here there (Made size) k h = ap WrittenAt (h k)
 
-  pub to-write : (os : List Outcome) (count : ℕ) → Planned j os → Enough j flags tocodes toglyphs → Counts os count → Written j os count flags tocodes toglyphs
-  to-write os count p r c = record { m = recordCount (j .source); others = flags; prepared = r .prepared; is = p .is; counts = c }
+module _ (s cs gs ks ms rs notes : List ℕ) where
+  abbrev j : Job
+  j = job s cs gs ks ms rs
 
-module _ (s cs gs ks ms rs : List ℕ) where
-  pub counted-room : (m : ℕ) (fs ot tocs togs : List ℕ) → m ≡ recordCount s → Prepared (job s cs gs ks ms rs) (recordCount s) fs ot tocs togs → Prepared (job s cs gs ks ms rs) m fs ot tocs togs
-  counted-room m fs ot tocs togs e p = rw e p
+  abbrev os : List Outcome
+  os = outcomesIn (recordCount s) notes
 
-  pub notes : (os : List Outcome) (fronts ends : List ℕ) → Fronted s (length ms) cs gs fronts → Endings (job s cs gs ks ms rs) os (recordCount s) ends → Noted (job s cs gs ks ms rs) os fronts ends
-  notes os fronts ends f e = record { fronted = f; endings = e }
+  module _ (p : Passing j) (e : os ≡ plan j) (q : Small os) (f : Fronted s (length ms) cs gs notes) where
+    pub is-planned : Planned j notes
+    is-planned = planned s cs gs ks ms rs p notes e q f
+
+    pub is-settled : Concludes s notes
+    is-settled = planned-settled s cs gs ks ms rs notes is-planned
+
+    -- planning leaves room to write in
+    pub to-write : (fs ot tocs togs fs′ tocs′ togs′ : List ℕ) → Prepared j fs ot tocs togs → Endings j os (recordCount s) notes
+        → length fs′ ≡ length fs → length tocs′ ≡ length tocs → length togs′ ≡ length togs → Writes j notes fs′ tocs′ togs′
+    to-write fs ot tocs togs fs′ tocs′ togs′ r g a b c = record {
+      others = ot;
+      planned = is-planned;
+      prepared = prepared-again j fs ot tocs togs r fs′ ot tocs′ togs′ a refl b c;
+      fronted = f;
+      endings = g;
+    }
+
+    pub is-found : Found (recordCount s) notes
+    is-found = record { told = is-planned .told; serving = λ k r d. earlier k r (plan-served j k r (ap (λ (o : List Outcome). at o k) (sym e) ∙ d)) }
+      where
+        earlier : (k r : ℕ) → Serving j k r → r < recordCount s
+        earlier k r t = omega (arith, t .earlier, t .inside)
+
+    place-offset : (i : ℕ) → placeOf os i ≡ offsetOf j (plan j) i
+    place-offset i = ap (λ (o : List Outcome). placeOf o i) e ∙ sym (offset-place j (plan j) (made-long j) i)
+
+    fate-same : (k : ℕ) → recordFate (placeOf os) s os k ≡ recordFate (offsetOf j (plan j)) s (plan j) k
+    fate-same k =
+        ap (λ (z : FateKind). record { platform = platformOf s k; encoding = encodingOf s k; kind = z })
+        (kind-alike (placeOf os) (offsetOf j (plan j)) (at os k) k place-offset ∙ ap (λ (o : List Outcome). kindOf (offsetOf j (plan j)) (at o k) k) e)
+
+    pub fate-told : (k : ℕ) (r : Fate) → r ≡ fateBy s os k → r ≡ fateOf j k
+    unfolding fateOf fateBy
+    fate-told k r w = rw (refusal-late j (p .passed)) (rw (fate-same k, e) at w)
+
+pub ruleset carrying = (is-planned, is-settled, to-write, is-found, fate-told)
+
+module _ (j : Job) (notes flags tocodes toglyphs : List ℕ) where
+  pub writes-planned : Writes j notes flags tocodes toglyphs → Planned j notes
+  writes-planned w = w .planned
+
+  pub writes-plan : (count : ℕ) → Writes j notes flags tocodes toglyphs → Counts (recordCount (j .source)) notes count → WritesPlan j notes count flags tocodes toglyphs
+  writes-plan count w c = record {
+    others = w .others;
+    prepared = w .prepared;
+    is = w .planned .is;
+    counts = c;
+    fronted = w .fronted;
+    endings = w .endings;
+  }
+
+pub ruleset writing = (writes-planned, writes-plan)

@@ -1,2 +1,1 @@
-pub mod Carrying
 pub mod Rooms

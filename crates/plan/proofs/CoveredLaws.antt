@@ -19,7 +19,8 @@ use Rattle.lists_marks.specs.Marks.{below, flagged, flagOf, Bound}
 use Rattle.lists_marks.proofs.MarksLaws.{length-flagged}
 use Rattle.lists_marks.proofs.BelowLaws.{below-tail}
 use Rattle.plan_listing.specs.Listing.{maps, Beside}
-use Rattle.plan.specs.Covered.{reachesAbove, mapAlike, siblingCovers, isSet, someSet, isOther, flagsDiffer, Rooms}
+use Rattle.plan.specs.Covered.{reachesAbove, mapAlike, siblingCovers}
+use Rattle.plan.specs.CoveredFlags.{isSet, someSet, isOther, flagsDiffer, Rooms}
 use Rattle.plan.specs.Sibling.{firstSibling}
 use borrow.Author.Tests.{lt-ltb, le-ltb, le-leb, lt-leb, eq-eqb, ne-eqb}
 

@@ -19,8 +19,10 @@ use Rattle.format14.specs.Selectors.{given}
 use Rattle.format14.specs.ByNumber.{Readable}
 use Rattle.format14.specs.Format14.{outcome as outcome14}
 use Rattle.plan.specs.declared.Outcome.{Outcome}
-use Rattle.plan.specs.declared.Outcome.the-variants.{Skipped, Made}
-use Rattle.plan.specs.Fresh.{by4, by14, fresh, Ready}
+use Rattle.plan.specs.declared.Why.the-variants.{Skipped}
+use Rattle.plan.specs.declared.Outcome.the-variants.{LeftOut, Made}
+use Rattle.plan.specs.Fresh.{by4, by14, fresh}
+use Rattle.plan.specs.Making.{Ready}
 
 module _ (xs : List ℕ) (k : ℕ) (kind : Kind) (q : kind ≡ leadsTo xs k) where
   pub leads4 : (l s len : ℕ) → kind ≡ Format4 l s len → Leads xs k 4
@@ -35,7 +37,7 @@ module _ (xs : List ℕ) (k : ℕ) (kind : Kind) (q : kind ≡ leadsTo xs k) whe
     unfolding fresh
     fresh-12 l g len o e h = rw (← q, e) h
 
-    pub fresh-none : kind ≡ Unreadable → Skipped ≡ fresh (job xs cs gs kept map requested) k
+    pub fresh-none : kind ≡ Unreadable → LeftOut Skipped ≡ fresh (job xs cs gs kept map requested) k
     unfolding fresh
     fresh-none e = rw (← q, e)
 

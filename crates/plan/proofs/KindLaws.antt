@@ -21,12 +21,13 @@ use Rattle.format14.specs.declared.Outcome.{Outcome as Outcome14}
 use Rattle.format14.specs.declared.Outcome.the-variants.{Refused8, Empty as Empty14, Length}
 use Rattle.format14.specs.Format14.{outcome as outcome14}
 use Rattle.plan.specs.declared.Outcome.{Outcome}
-use Rattle.plan.specs.declared.Outcome.the-variants.{Skipped, Empty, TooLong, BadMapping, Made}
+use Rattle.plan.specs.declared.Why.the-variants.{Skipped, Empty, TooLong}
+use Rattle.plan.specs.declared.Outcome.the-variants.{LeftOut, BadMapping, Made}
 use Rattle.plan.specs.Fresh.{listedOf, givenOf, by4, by14, freshAs, fresh}
 
 -- ---- what is never fresh
 
-pub fresh-never : (j : Job) (k : ℕ) (p : Outcome → Bool) → p Skipped ≡ false → p Empty ≡ false → p TooLong ≡ false → p BadMapping ≡ false → ((n : ℕ) → p (Made n) ≡ false)
+pub fresh-never : (j : Job) (k : ℕ) (p : Outcome → Bool) → p (LeftOut Skipped) ≡ false → p (LeftOut Empty) ≡ false → p (LeftOut TooLong) ≡ false → p BadMapping ≡ false → ((n : ℕ) → p (Made n) ≡ false)
     → p (fresh j k) ≡ false
 unfolding fresh
 fresh-never j k p skipped empty long bad made = go (leadsTo (j .source) k)

@@ -1,6 +1,6 @@
 pub mod OutcomeLaws
 pub mod PlanLaws
-pub mod RowLaws
+pub mod OutcomesLaws
 pub mod NotesLaws
 pub mod TwinLaws
 pub mod ServesLaws
@@ -12,4 +12,5 @@ pub mod MakingLaws
 pub mod FreshLaws
 pub mod KindLaws
 pub mod RecordNotesLaws
+pub mod NotedLaws
 pub mod SizesLaws

@@ -11,7 +11,7 @@ use Rattle.laws.proofs.LengthLaws.{length-map, length-pairs, length-select}
 use Rattle.number.specs.Limits.{pairsMax}
 use Rattle.plan_listing.specs.Listing.{maps, listed, codesOf, glyphsOf, Lists, Copied}
 use Rattle.plan.specs.Making.{Pairs, Fronts}
-use Rattle.plan.specs.Front.{Front}
+use Rattle.plan.specs.Making.{Front}
 
 -- ---- a part of a column
 

@@ -9,7 +9,8 @@ use Rattle.source_records.specs.Records.{retained}
 use Rattle.plan.specs.Covered.{covered}
 use Rattle.plan_listing.specs.Job.{Job, job}
 use Rattle.plan.specs.declared.Outcome.{Outcome}
-use Rattle.plan.specs.declared.Outcome.the-variants.{NotRetained, Covered, Served}
+use Rattle.plan.specs.declared.Why.the-variants.{NotRetained, Covered}
+use Rattle.plan.specs.declared.Outcome.the-variants.{LeftOut, Served}
 use Rattle.plan.specs.Outcomes.{server}
 use Rattle.plan.specs.Fresh.{fresh}
 use Rattle.plan.specs.Plan.{retainedOutcome, outcomeOf}
@@ -19,7 +20,7 @@ module _ (xs cs gs kept map requested : List ℕ) (os : List Outcome) (k : ℕ) 
   j = job xs cs gs kept map requested
 
   module _ (q : t ≡ covered xs (length map) kept k) where
-    pub covered-yes : t ≡ true → Covered ≡ retainedOutcome j os k
+    pub covered-yes : t ≡ true → LeftOut Covered ≡ retainedOutcome j os k
     unfolding retainedOutcome
     covered-yes e = rw (← q, e)
 
@@ -37,7 +38,7 @@ module _ (xs cs gs kept map requested : List ℕ) (os : List Outcome) (k : ℕ) 
     unfolding outcomeOf
     retained-yes o e h = rw (← q, e) h
 
-    pub retained-no : t ≡ false → NotRetained ≡ outcomeOf j os k
+    pub retained-no : t ≡ false → LeftOut NotRetained ≡ outcomeOf j os k
     unfolding outcomeOf
     retained-no e = rw (← q, e)
 

@@ -1,32 +1,44 @@
--- The walk over the records: what is worked out so far is the row of outcomes so far.
-use Prim.Native.Nat.{ℕ, zero, suc, _+_, _<_, _≤_}
-use mathlib.Core.Path.{_≡_, refl, ap, _∙_}
-use mathlib.Core.List.{List, [], _∷_}
+-- The walk over the records: what is noted so far is the list of outcomes so far.
+use Prim.Native.Nat.{ℕ, suc, _+_, _<_, _≤_}
+use mathlib.Core.Path.{_≡_, refl, sym, ap, subst, _∙_}
+use mathlib.Core.List.{List, [], _∷_, _++_}
 use native.Mathlib.Numerals.{add-one}
 use native.Mathlib.Omega.{arith}
-use lib.ListN.{length, getD, set, replicate, length-set}
-use Rattle.laws.proofs.ReadLaws.{getD-row}
+use lib.Dec.{eqb}
+use lib.ListN.{length, getD, set, take, replicate, length-set, length-replicate}
+use lib.Seq.{getD-at}
+use borrow.Author.Tests.{eqb-true, eqb-false}
+use Rattle.laws.proofs.ChoiceLaws.{by-leb}
+use Rattle.number.specs.Limits.{recordsMax}
 use Rattle.source_header.specs.Header.{recordCount}
 use Rattle.source_records.proofs.RecordsLaws.{placed}
-use Rattle.plan.specs.Covered.{Rooms}
 use Rattle.plan_listing.specs.Job.{Job, glyphCount}
+use Rattle.plan.specs.declared.Why.the-variants.{NotRetained}
 use Rattle.plan.specs.declared.Outcome.{Outcome}
-use Rattle.plan.specs.declared.Outcome.the-variants.{NotRetained}
-use Rattle.plan.specs.Outcomes.{Short, Small}
-use Rattle.plan.specs.Fresh.{Ready}
-use Rattle.plan.specs.RecordNotes.{Fronted, Notebook}
-use Rattle.plan.specs.Plan.{outcomeOf, outcomes, plan, Prepared}
-use Rattle.plan.specs.Notes.{Stays, Endings}
+use Rattle.plan.specs.declared.Outcome.the-variants.{LeftOut}
+use Rattle.plan.specs.Outcomes.{at}
+use Rattle.plan.specs.Sizes.{Short, Small}
+use Rattle.plan.specs.Making.{Ready}
+use Rattle.plan.specs.CoveredFlags.{Rooms}
+use Rattle.plan.specs.Plan.{outcomeOf, outcomes, plan}
+use Rattle.plan.specs.Prepared.{Prepared}
+use Rattle.plan.specs.Notes.{noted, outcomesIn, rowIn, frontsIn, endsIn, notesMax, Fronted, Endings, Notebook, Leaves, Stays}
 use Rattle.plan.specs.Earlier.{Earlier}
-use Rattle.plan.proofs.NotesLaws.{endings-start, endings-on}
+use Rattle.plan.proofs.OutcomesLaws.{getD-before, getD-past, length-outcomes}
+use Rattle.plan.proofs.NotedLaws.{length-noted, noted-on, row-tells, fronts-row, ends-row}
+use Rattle.plan.proofs.RecordNotesLaws.{fronted-same}
+use Rattle.plan.proofs.NotesLaws.{endings-start, endings-on, endings-same}
 
 -- ---- what is asked for each record
 
-module _ (j : Job) (m : ℕ) (fs os tocs togs : List ℕ) (p : Prepared j m fs os tocs togs) where
-  pub ready : (k : ℕ) → k < m → Ready j k fs tocs togs
+abbrev records : Job → ℕ
+records j = recordCount (j .source)
+
+module _ (j : Job) (fs os tocs togs : List ℕ) (p : Prepared j fs os tocs togs) where
+  pub ready : (k : ℕ) → k < records j → Ready j k fs tocs togs
   ready k h = record {
     pairs-ready = record {
-      placed = placed (j .source) m k (p .counted) h;
+      placed = placed (j .source) (records j) k (p .counted) h;
       beside = record { glyphs = p .glyph-count; flagged = record { rising = p .codes-rise; beside = p .code-flags } };
       columns = p .columns;
       few = p .few-pairs;
@@ -39,7 +51,7 @@ module _ (j : Job) (m : ℕ) (fs os tocs togs : List ℕ) (p : Prepared j m fs o
     kept-flags = p .kept-flags;
   }
 
-  pub rooms : (k : ℕ) → k < m → Rooms (j .source) m k (glyphCount j) (j .kept) fs os
+  pub rooms : (k : ℕ) → k < records j → Rooms (j .source) (records j) k (glyphCount j) (j .kept) fs os
   rooms k h = record {
     counted = p .counted;
     below = h;
@@ -51,7 +63,7 @@ module _ (j : Job) (m : ℕ) (fs os tocs togs : List ℕ) (p : Prepared j m fs o
 
   -- work room that was written to is work room still
   pub prepared-again : (fs′ os′ tocs′ togs′ : List ℕ) → length fs′ ≡ length fs → length os′ ≡ length os → length tocs′ ≡ length tocs → length togs′ ≡ length togs
-      → Prepared j m fs′ os′ tocs′ togs′
+      → Prepared j fs′ os′ tocs′ togs′
   prepared-again fs′ os′ tocs′ togs′ a b c d = record {
     counted = p .counted;
     few-records = p .few-records;
@@ -69,96 +81,125 @@ module _ (j : Job) (m : ℕ) (fs os tocs togs : List ℕ) (p : Prepared j m fs o
     kept-others = omega (arith, p .kept-others);
   }
 
--- ---- the row
+-- ---- the outcomes stay small
 
-short-set : (os : List Outcome) (k i : ℕ) (o : Outcome) → Short o → Short (getD os i NotRetained) → Short (getD (set os k o) i NotRetained)
-short-set [] k i o s b = b
-short-set (x ∷ os) zero zero o s b = s
-short-set (x ∷ os) zero (suc i) o s b = b
-short-set (x ∷ os) (suc k) zero o s b = b
-short-set (x ∷ os) (suc k) (suc i) o s b = short-set os k i o s b
+small-snoc : (os : List Outcome) (o : Outcome) → Small os → Short o → Small (os ++ (o ∷ []))
+small-snoc os o s h = record {
+  each = λ i.
+      by-leb (Short (at (os ++ (o ∷ [])) i)) (length os) i
+      (λ a.
+      by-leb (Short (at (os ++ (o ∷ [])) i)) (suc (length os)) i
+      (λ b. rw (getD-past (os ++ (o ∷ [])) i (LeftOut NotRetained) (omega (arith, b, length-snoc os))) (record { below = omega arith }))
+      (λ b.
+      let same : i ≡ length os = omega arith in
+      rw (same, getD-at os o [] (LeftOut NotRetained) (length os) refl) h))
+      (λ a. rw (getD-before os (o ∷ []) i (LeftOut NotRetained) a) (s .each i));
+}
+  where
+    length-snoc : (xs : List Outcome) → length (xs ++ (o ∷ [])) ≡ suc (length xs)
+    length-snoc [] = refl
+    length-snoc (x ∷ xs) = ap suc (length-snoc xs)
 
 -- ---- the walk
 
-pub record Planning (j : Job) (m : ℕ) (fs ot tocs togs ns es : List ℕ) (os : List Outcome) (k : ℕ) : Type 0 where
-  pub prepared : Prepared j m fs ot tocs togs
+-- k of m records are worked out
+pub record Planning (j : Job) (m : ℕ) (fs ot tocs togs ns : List ℕ) (k : ℕ) : Type 0 where
+  pub prepared : Prepared j fs ot tocs togs
+  pub all : m ≡ recordCount (j .source)
   pub within : k ≤ m
-  pub row : os ≡ outcomes j k
-  pub small : Small os
+  pub told : outcomesIn k ns ≡ outcomes j k
+  pub small : Small (outcomesIn k ns)
   pub fronted : Fronted (j .source) (glyphCount j) (j .codes) (j .glyphs) ns
-  pub tables : 1024 ≤ length es
-  pub endings : Endings j os k es
+  pub endings : Endings j (outcomesIn k ns) k ns
 
-pub planning-start : (j : Job) (m : ℕ) (fs ot tocs togs ns es : List ℕ) → Prepared j m fs ot tocs togs → Fronted (j .source) (glyphCount j) (j .codes) (j .glyphs) ns
-    → 1024 ≤ length es → Planning j m fs ot tocs togs ns es (replicate 64 NotRetained) 0
-unfolding outcomes
-planning-start j m fs ot tocs togs ns es p f t = record {
+pub planning-start : (j : Job) (m : ℕ) (fs ot tocs togs ns : List ℕ) → m ≡ recordCount (j .source) → Prepared j fs ot tocs togs → Fronted (j .source) (glyphCount j) (j .codes) (j .glyphs) ns
+    → Planning j m fs ot tocs togs ns 0
+unfolding outcomes outcomesIn
+planning-start j m fs ot tocs togs ns e p f = record {
   prepared = p;
+  all = e;
   within = omega arith;
-  row = refl;
-  small = record { all = refl; each = λ k. rw (getD-row NotRetained 64 k) (record { below = omega arith }) };
+  told = refl;
+  small = record { each = λ k. record { below = omega arith } };
   fronted = f;
-  tables = t;
-  endings = endings-start j (replicate 64 NotRetained) es;
+  endings = endings-start j [] ns;
 }
 
-module _ (j : Job) (m : ℕ) (fs ot tocs togs ns es : List ℕ) (os : List Outcome) (k : ℕ) (l : Planning j m fs ot tocs togs ns es os k) where
-  pub planning-on : (o : Outcome) (fs′ ot′ tocs′ togs′ ns′ es′ : List ℕ) → k < m → o ≡ outcomeOf j os k → Short o
-      → length fs′ ≡ length fs → length ot′ ≡ length ot → length tocs′ ≡ length tocs → length togs′ ≡ length togs → length es′ ≡ length es
-      → Fronted (j .source) (glyphCount j) (j .codes) (j .glyphs) ns′ → Stays j os k o es es′
-      → Planning j m fs′ ot′ tocs′ togs′ ns′ es′ (set os k o) (k + 1)
+module _ (j : Job) (m : ℕ) (fs ot tocs togs ns : List ℕ) (k : ℕ) (l : Planning j m fs ot tocs togs ns k) where
+  grown : (o : Outcome) → o ≡ outcomeOf j (outcomesIn k ns) k → outcomesIn k ns ++ (o ∷ []) ≡ outcomes j (k + 1)
   unfolding outcomes
-  planning-on o fs′ ot′ tocs′ togs′ ns′ es′ h e s a b c d i f w = record {
-    prepared = prepared-again j m fs ot tocs togs (l .prepared) fs′ ot′ tocs′ togs′ a b c d;
-    within = omega arith;
-    row = rw (add-one k, ← l .row, e);
-    small = record { all = length-set os k o ∙ l .small .all; each = λ i. short-set os k i o s (l .small .each i) };
-    fronted = f;
-    tables = omega (arith, l .tables, i);
-    endings = endings-on j os k o es es′ (omega (arith, l .small .all, l .prepared .few-records)) (l .endings) w;
-  }
+  grown o e = rw (add-one k, e, l .told)
 
-  done : m ≤ k → k ≡ recordCount (j .source)
-  done h = omega (arith, l .within, l .prepared .counted .is)
+  noted-next : (o : Outcome) (fs′ ot′ tocs′ togs′ ns′ : List ℕ) → k < m → o ≡ outcomeOf j (outcomesIn k ns) k → Short o
+      → length fs′ ≡ length fs → length ot′ ≡ length ot → length tocs′ ≡ length tocs → length togs′ ≡ length togs
+      → Leaves j ns ns′ → Stays j (outcomesIn k ns) k o ns ns′
+      → Planning j m fs′ ot′ tocs′ togs′ (set ns′ k (noted o)) (k + 1)
+  noted-next o fs′ ot′ tocs′ togs′ ns′ h e s a b c d f w =
+      let inside : k < recordsMax = omega (arith, l .all, l .prepared .few-records) in
+      let long : k < length ns′ = omega (arith, inside, f .fronted .long) in
+      let before = row-tells ns ns′ k (omega arith) (f .row) in
+      let on : outcomesIn (k + 1) (set ns′ k (noted o)) ≡ outcomesIn k ns ++ (o ∷ []) = rw (noted-on ns′ k o long, before) in
+      let len = length-noted k ns (omega (arith, inside, l .fronted .long)) in
+      record {
+        prepared = prepared-again j fs ot tocs togs (l .prepared) fs′ ot′ tocs′ togs′ a b c d;
+        all = l .all;
+        within = omega arith;
+        told = on ∙ grown o e;
+        small = rw on (small-snoc (outcomesIn k ns) o (l .small) s);
+        fronted = fronted-same (j .source) (glyphCount j) (j .codes) (j .glyphs) ns′ (set ns′ k (noted o)) (f .fronted) (fronts-row ns′ k (noted o) inside) (length-set ns′ k (noted o));
+        endings = rw on (endings-same j (outcomesIn k ns ++ (o ∷ [])) (k + 1) ns′ (set ns′ k (noted o)) (ends-row ns′ k (noted o) inside) (endings-on j (outcomesIn k ns) k o ns ns′ len (l .endings) w));
+      }
 
-  pub planning-done : m ≤ k → os ≡ plan j
+  -- record k has come to o, with notes left as working it out leaves them, and is noted
+  pub planning-on : (o : Outcome) (fs′ ot′ tocs′ togs′ ns′ ns″ : List ℕ) → k < m → o ≡ outcomeOf j (outcomesIn k ns) k → Short o
+      → length fs′ ≡ length fs → length ot′ ≡ length ot → length tocs′ ≡ length tocs → length togs′ ≡ length togs
+      → Leaves j ns ns′ → Stays j (outcomesIn k ns) k o ns ns′ → ns″ ≡ set ns′ k (noted o)
+      → Planning j m fs′ ot′ tocs′ togs′ ns″ (k + 1)
+  planning-on o fs′ ot′ tocs′ togs′ ns′ ns″ h e s a b c d f w q =
+      rw q (noted-next o fs′ ot′ tocs′ togs′ ns′ h e s a b c d f w)
+
+  done : m ≤ k → k ≡ records j
+  done h = omega (arith, l .all, l .within)
+
+  pub planning-done : m ≤ k → outcomesIn (records j) ns ≡ plan j
   unfolding plan
-  planning-done h = l .row ∙ ap (outcomes j) (done h)
+  planning-done h = rw (done h) at (l .told)
 
-  pub planning-ended : m ≤ k → Endings j os (recordCount (j .source)) es
+  pub planning-small : m ≤ k → Small (outcomesIn (records j) ns)
+  planning-small h = rw (done h) at (l .small)
+
+  pub planning-ended : m ≤ k → Endings j (outcomesIn (records j) ns) (records j) ns
   planning-ended h = rw (done h) at (l .endings)
 
   pub planning-fronted : Fronted (j .source) (glyphCount j) (j .codes) (j .glyphs) ns
   planning-fronted = l .fronted
 
   pub planning-ready : k < m → Ready j k fs tocs togs
-  planning-ready h = ready j m fs ot tocs togs (l .prepared) k h
+  planning-ready h = ready j fs ot tocs togs (l .prepared) k (omega (arith, h, l .all))
 
-  pub planning-rooms : k < m → Rooms (j .source) m k (glyphCount j) (j .kept) fs ot
-  planning-rooms h = rooms j m fs ot tocs togs (l .prepared) k h
+  pub planning-rooms : k < m → Rooms (j .source) (records j) k (glyphCount j) (j .kept) fs ot
+  planning-rooms h = rooms j fs ot tocs togs (l .prepared) k (omega (arith, h, l .all))
 
-  pub planning-earlier : k < m → Earlier j os k
-  planning-earlier h = record { inside = omega (arith, l .prepared .few-records); row = l .row; small = l .small }
+  pub planning-earlier : k < m → Earlier j (outcomesIn k ns) k
+  planning-earlier h = record { inside = omega (arith, l .all, l .prepared .few-records); row = l .told; small = l .small }
 
-  pub planning-notebook : k < m → Notebook j k ot ns es
+  pub planning-notebook : k < m → Notebook j k ot ns
   planning-notebook h = record {
-    inside = omega (arith, l .prepared .few-records);
+    inside = omega (arith, l .all, l .prepared .few-records);
     kept-others = l .prepared .kept-others;
     fronted = l .fronted;
-    tables = l .tables;
   }
 
-  pub planning-inside : k < m → k < 64
-  planning-inside h = omega (arith, l .prepared .few-records)
+  pub planning-inside : (ns′ : List ℕ) → k < m → Leaves j ns ns′ → k < length ns′
+  planning-inside ns′ h f = omega (arith, l .all, l .prepared .few-records, f .fronted .long)
 
 pub ruleset planning =
-    (planning-start, planning-on, planning-done, planning-ended, planning-fronted, planning-ready, planning-rooms, planning-earlier, planning-notebook, planning-inside)
+    (planning-start, planning-on, planning-done, planning-small, planning-ended, planning-fronted, planning-ready, planning-rooms, planning-earlier, planning-notebook, planning-inside)
 
 -- the work room keeps its lengths
-pub record Kept (fs₀ ot₀ tocs₀ togs₀ ns₀ es₀ fs ot tocs togs ns es : List ℕ) : Type 0 where
+pub record Kept (fs₀ ot₀ tocs₀ togs₀ ns₀ fs ot tocs togs ns : List ℕ) : Type 0 where
   pub flags : length fs ≡ length fs₀
   pub others : length ot ≡ length ot₀
   pub codes : length tocs ≡ length tocs₀
   pub glyphs : length togs ≡ length togs₀
-  pub fronts : length ns ≡ length ns₀
-  pub ends : length es ≡ length es₀
+  pub notes : length ns ≡ length ns₀

@@ -20,8 +20,9 @@ use Rattle.format14.specs.declared.Outcome.{Outcome as Outcome14}
 use Rattle.format14.specs.Format14.{outcome as outcome14}
 use Rattle.plan.specs.declared.Outcome.{Outcome}
 use Rattle.plan.specs.declared.Outcome.the-variants.{Made}
-use Rattle.plan.specs.Outcomes.{Short}
-use Rattle.plan.specs.Fresh.{by4, by14, Short4}
+use Rattle.plan.specs.Sizes.{Short}
+use Rattle.plan.specs.Fresh.{by4, by14}
+use Rattle.plan.specs.Making.{Short4}
 
 pub short4 : (ps : List Pair) (size : Size) → size ≡ sizeOf4 ps → Short4 size
 short4 ps size e = record { fits = λ n q. fits-tells ps n (sym e ∙ q) .short }

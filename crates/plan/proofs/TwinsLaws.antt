@@ -1,5 +1,5 @@
 -- Whether an earlier record tells of a record, read off the code's answers, and the searches for the first that does.
-use Prim.Native.Nat.{ℕ}
+use Prim.Native.Nat.{ℕ, _<_}
 use mathlib.Core.Path.{_≡_}
 use mathlib.Core.List.{List}
 use mathlib.Core.Bool.{Bool, true, false}
@@ -9,8 +9,10 @@ use Rattle.laws.proofs.SearchLaws.{Finding, looking-start, looks}
 use Rattle.source_header.specs.declared.EncodingRecord.{EncodingRecord}
 use Rattle.source_header.specs.Header.{platformOf, encodingOf, offsetOf, recordOf}
 use Rattle.source_records.specs.Records.{isPair}
+use Rattle.plan.specs.Outcomes.{at}
 use Rattle.plan.specs.declared.Outcome.{Outcome}
-use Rattle.plan.specs.declared.Outcome.the-variants.{NotRetained}
+use Rattle.plan.specs.Notes.{tells, outcomesIn}
+use Rattle.plan.proofs.NotedLaws.{at-noted}
 use Rattle.plan.specs.Twins.{cameToNothing, isTwin, twin, isSpent, spent}
 use Rattle.plan.proofs.ServesLaws.{two}
 
@@ -26,14 +28,17 @@ module _ (xs : List ℕ) (k r : ℕ) (e : EncodingRecord) (t : Bool) (q : e ≡ 
   unfolding isTwin
   twin-then at f h = rw (← asked, f, h, q)
 
-module _ (xs : List ℕ) (os : List Outcome) (k r : ℕ) (t : Bool) (q : t ≡ cameToNothing (getD os r NotRetained)) where
-  pub spent-no : t ≡ false → false ≡ isSpent xs os k r
-  unfolding isSpent
-  spent-no e = rw (← q, e)
+module _ (xs notes : List ℕ) (k r : ℕ) (o : Outcome) (t : Bool) (told : o ≡ tells (getD notes r 0)) (before : r < k) (q : t ≡ cameToNothing o) where
+  nothing : t ≡ cameToNothing (at (outcomesIn k notes) r)
+  nothing = rw (at-noted k r notes before, ← told) q
 
-  pub spent-then : (a b : ℕ) → t ≡ true → a ≡ offsetOf xs r → b ≡ offsetOf xs k → eqb a b ≡ isSpent xs os k r
+  pub spent-no : t ≡ false → false ≡ isSpent xs (outcomesIn k notes) k r
   unfolding isSpent
-  spent-then a b e f g = rw (← q, e, f, g)
+  spent-no e = rw (← nothing, e)
+
+  pub spent-then : (a b : ℕ) → t ≡ true → a ≡ offsetOf xs r → b ≡ offsetOf xs k → eqb a b ≡ isSpent xs (outcomesIn k notes) k r
+  unfolding isSpent
+  spent-then a b e f g = rw (← nothing, e, f, g)
 
 pub ruleset twin-tests = (twin-no, twin-then, spent-no, spent-then)
 

@@ -3,14 +3,13 @@ use Prim.Native.Nat.{ℕ, _<_}
 use mathlib.Core.Path.{_≡_}
 use mathlib.Core.List.{List}
 use mathlib.Core.Bool.{true}
-use lib.ListN.{getD}
 use Rattle.number.specs.Limits.{recordsMax}
 use Rattle.source_records.specs.Records.{retained}
 use Rattle.plan_listing.specs.Job.{Job}
 use Rattle.plan.specs.Covered.{covered}
 use Rattle.plan.specs.declared.Outcome.{Outcome}
-use Rattle.plan.specs.declared.Outcome.the-variants.{NotRetained}
-use Rattle.plan.specs.Outcomes.{Small}
+use Rattle.plan.specs.Outcomes.{at}
+use Rattle.plan.specs.Sizes.{Small}
 use Rattle.plan.specs.Twins.{isCovered}
 use Rattle.plan.specs.Plan.{outcomes}
 
@@ -24,4 +23,4 @@ pub record Earlier (j : Job) (os : List Outcome) (k : ℕ) : Type 0 where
 pub record Tells (xs : List ℕ) (n : ℕ) (kept : List ℕ) (os : List Outcome) (k : ℕ) : Type 0 where
   pub inside : k < recordsMax
   pub this : retained xs k ≡ true
-  pub covers : (r : ℕ) → r < k → retained xs r ≡ true → isCovered (getD os r NotRetained) ≡ covered xs n kept r
+  pub covers : (r : ℕ) → r < k → retained xs r ≡ true → isCovered (at os r) ≡ covered xs n kept r

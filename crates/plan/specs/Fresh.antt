@@ -1,30 +1,25 @@
 -- What a record works on, the table it makes, and what becomes of it where no earlier table serves it (docs/01-rules.md, "Records").
-use Prim.Native.Nat.{ℕ, _≤_}
-use mathlib.Core.Path.{_≡_}
+use Prim.Native.Nat.{ℕ}
 use mathlib.Core.List.{List, []}
-use lib.ListN.{length}
-use Rattle.laws.specs.Lists.{Pair, Rising}
-use Rattle.number.specs.Limits.{sourceMax, keptMax}
+use Rattle.laws.specs.Lists.{Pair}
 use Rattle.source.specs.declared.Kind.{Kind}
 use Rattle.source.specs.declared.Kind.the-variants.{Format4, Format12, Format14, Unreadable}
 use Rattle.source_header.specs.Header.{offsetOf}
 use Rattle.source_records.specs.Records.{leadsTo}
 use Rattle.plan_listing.specs.Job.{Job, glyphCount}
 use Rattle.plan_listing.specs.Listing.{listed}
-use Rattle.format4.specs.declared.RangeCounter.{RangeCounter}
 use Rattle.format4.specs.declared.Size.{Size}
 use Rattle.format4.specs.declared.Size.the-variants.{Empty as Empty4, TooLong as TooLong4, Fits}
 use Rattle.format4.specs.Format4.{format4}
 use Rattle.format4.specs.Size.{sizeOf as sizeOf4, lengthOf as lengthOf4}
 use Rattle.format12.specs.Format12.{format12, sizeOf as sizeOf12}
-use Rattle.plan.specs.Making.{Pairs}
-use Rattle.format14.specs.Streams.{CodePoints}
 use Rattle.format14.specs.Selectors.{Given, given}
 use Rattle.format14.specs.declared.Outcome.{Outcome as Outcome14}
 use Rattle.format14.specs.declared.Outcome.the-variants.{Refused8, Empty as Empty14, Length}
 use Rattle.format14.specs.Format14.{format14, rows, outcome as outcome14}
 use Rattle.plan.specs.declared.Outcome.{Outcome}
-use Rattle.plan.specs.declared.Outcome.the-variants.{Skipped, Empty, TooLong, BadMapping, Made}
+use Rattle.plan.specs.declared.Why.the-variants.{Skipped, Empty, TooLong}
+use Rattle.plan.specs.declared.Outcome.the-variants.{LeftOut, BadMapping, Made}
 
 -- ---- what a record works on
 
@@ -51,14 +46,14 @@ tableOf j k = tableAs (leadsTo (j .source) k) j k
 
 -- format 4 may be empty or too long
 abbrev pub by4 : Size → Outcome
-by4 Empty4 = Empty
-by4 TooLong4 = TooLong
+by4 Empty4 = LeftOut Empty
+by4 TooLong4 = LeftOut TooLong
 by4 (Fits n) = Made (lengthOf4 n)
 
 -- format 14 may be empty, or name a glyph that is missing
 abbrev pub by14 : Outcome14 → Outcome
 by14 Refused8 = BadMapping
-by14 Empty14 = Empty
+by14 Empty14 = LeftOut Empty
 by14 (Length n) = Made n
 
 -- format 12 is written in any case; what is unreadable or of another format is skipped
@@ -66,23 +61,7 @@ abbrev pub freshAs : Kind → Job → ℕ → Outcome
 freshAs (Format4 language segments len) j k = by4 (sizeOf4 (listedOf j k))
 freshAs (Format12 language groups len) j k = Made (sizeOf12 (listedOf j k) .bytes)
 freshAs (Format14 selectors len) j k = by14 (outcome14 (givenOf j k len))
-freshAs Unreadable j k = Skipped
+freshAs Unreadable j k = LeftOut Skipped
 
 unfoldable pub fresh : Job → ℕ → Outcome
 fresh j k = freshAs (leadsTo (j .source) k) j k
-
--- ---- what the functions ask for
-
--- a format 4 size that was found is a length of 16 bits
-pub record Short4 (size : Size) : Type 0 where
-  pub fits : (n : RangeCounter) → size ≡ Fits n → lengthOf4 n ≤ 65535
-
--- record k is there, the lists are those of a job that refusals 1 to 4 let pass, and the work room is long enough
-pub record Ready (j : Job) (k : ℕ) (flags tocodes toglyphs : List ℕ) : Type 0 where
-  pub pairs-ready : Pairs (j .source) k (glyphCount j) (j .codes) (j .glyphs) flags tocodes toglyphs
-  pub source-small : length (j .source) ≤ sourceMax
-  pub kept-rises : Rising (j .kept)
-  pub kept-few : length (j .kept) ≤ keptMax
-  pub kept-low : CodePoints (j .kept)
-  pub requested-rises : Rising (j .requested)
-  pub kept-flags : length (j .kept) ≤ length flags

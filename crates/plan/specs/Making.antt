@@ -1,12 +1,19 @@
--- What is asked for to make a format 4 or 12 subtable of the pairs that a record's subtable maps.
+-- Inner: what is asked for to work out a record and to make its table; no promise names it.
 use Prim.Native.Nat.{ℕ, _≤_}
 use mathlib.Core.Path.{_≡_}
 use mathlib.Core.List.{List}
 use lib.ListN.{length}
-use Rattle.number.specs.Limits.{pairsMax}
+use Rattle.laws.specs.Lists.{Rising}
+use Rattle.number.specs.Limits.{sourceMax, pairsMax, keptMax}
 use Rattle.source.specs.Kind.{formatOf}
 use Rattle.source_records.specs.Records.{leadsTo, Placed}
+use Rattle.plan_listing.specs.Job.{Job, glyphCount}
 use Rattle.plan_listing.specs.Listing.{listed, Beside, Columns, First}
+use Rattle.format4.specs.declared.RangeCounter.{RangeCounter}
+use Rattle.format4.specs.declared.Size.{Size}
+use Rattle.format4.specs.declared.Size.the-variants.{Fits}
+use Rattle.format4.specs.Size.{lengthOf as lengthOf4}
+use Rattle.format14.specs.Streams.{CodePoints}
 
 -- record k of the source is there, the font has n glyphs, the code points rise and each has a flag, and there is room for all pairs
 pub record Pairs (xs : List ℕ) (k n : ℕ) (codes glyphs flags tocodes toglyphs : List ℕ) : Type 0 where
@@ -22,3 +29,23 @@ pub record Leads (xs : List ℕ) (k format : ℕ) : Type 0 where
 -- what a plan notes of a record's listed pairs: how many they are, where they are the first of the lent columns; else 0
 abbrev pub Fronts : List ℕ → ℕ → List ℕ → List ℕ → ℕ → ℕ → Type 0
 Fronts xs n codes glyphs k front = First (listed xs n codes glyphs k) codes glyphs front
+
+-- the first m entries of two columns are there, and are few
+pub record Front (m : ℕ) (cs gs : List ℕ) : Type 0 where
+  pub codes : m ≤ length cs
+  pub glyphs : m ≤ length gs
+  pub few : m ≤ pairsMax
+
+-- a format 4 size that was found is a length of 16 bits
+pub record Short4 (size : Size) : Type 0 where
+  pub fits : (n : RangeCounter) → size ≡ Fits n → lengthOf4 n ≤ 65535
+
+-- record k is there, the lists are those of a job that refusals 1 to 4 let pass, and the work room is long enough
+pub record Ready (j : Job) (k : ℕ) (flags tocodes toglyphs : List ℕ) : Type 0 where
+  pub pairs-ready : Pairs (j .source) k (glyphCount j) (j .codes) (j .glyphs) flags tocodes toglyphs
+  pub source-small : length (j .source) ≤ sourceMax
+  pub kept-rises : Rising (j .kept)
+  pub kept-few : length (j .kept) ≤ keptMax
+  pub kept-low : CodePoints (j .kept)
+  pub requested-rises : Rising (j .requested)
+  pub kept-flags : length (j .kept) ≤ length flags

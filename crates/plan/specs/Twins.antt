@@ -3,13 +3,15 @@ use Prim.Native.Nat.{ℕ}
 use mathlib.Core.List.{List}
 use mathlib.Core.Bool.{Bool, true, false}
 use lib.Dec.{eqb}
-use lib.ListN.{getD}
 use Rattle.laws.specs.Choice.{both}
 use Rattle.laws.specs.Search.{first}
 use Rattle.source_header.specs.Header.{platformOf, encodingOf, offsetOf}
 use Rattle.source_records.specs.Records.{isPair}
 use Rattle.plan.specs.declared.Outcome.{Outcome}
-use Rattle.plan.specs.declared.Outcome.the-variants.{NotRetained, Skipped, Empty, TooLong, Covered, BadMapping, Served, Made}
+use Rattle.plan.specs.declared.Why.{Why}
+use Rattle.plan.specs.declared.Why.the-variants.{NotRetained, Skipped, Empty, TooLong, Covered}
+use Rattle.plan.specs.declared.Outcome.the-variants.{LeftOut, BadMapping, Served, Made}
+use Rattle.plan.specs.Outcomes.{at}
 
 -- ---- the same pair and offset
 
@@ -20,30 +22,36 @@ isTwin xs k r = both (isPair (platformOf xs k) (encodingOf xs k) xs r) (eqb (off
 unfoldable pub twin : List ℕ → ℕ → ℕ
 twin xs k = first (isTwin xs k) k 0
 
+abbrev pub saysCovered : Why → Bool
+saysCovered NotRetained = false
+saysCovered Skipped = false
+saysCovered Empty = false
+saysCovered TooLong = false
+saysCovered Covered = true
+
 abbrev pub isCovered : Outcome → Bool
-isCovered NotRetained = false
-isCovered Skipped = false
-isCovered Empty = false
-isCovered TooLong = false
-isCovered Covered = true
+isCovered (LeftOut why) = saysCovered why
 isCovered BadMapping = false
 isCovered (Served by) = false
 isCovered (Made size) = false
 
 -- ---- the same subtable, which came to nothing
 
+abbrev pub saysNothing : Why → Bool
+saysNothing NotRetained = false
+saysNothing Skipped = true
+saysNothing Empty = true
+saysNothing TooLong = true
+saysNothing Covered = false
+
 abbrev pub cameToNothing : Outcome → Bool
-cameToNothing NotRetained = false
-cameToNothing Skipped = true
-cameToNothing Empty = true
-cameToNothing TooLong = true
-cameToNothing Covered = false
+cameToNothing (LeftOut why) = saysNothing why
 cameToNothing BadMapping = true
 cameToNothing (Served by) = false
 cameToNothing (Made size) = false
 
 unfoldable pub isSpent : List ℕ → List Outcome → ℕ → ℕ → Bool
-isSpent xs os k r = both (cameToNothing (getD os r NotRetained)) (eqb (offsetOf xs r) (offsetOf xs k))
+isSpent xs os k r = both (cameToNothing (at os r)) (eqb (offsetOf xs r) (offsetOf xs k))
 
 -- the first such record before k; k where there is none
 unfoldable pub spent : List ℕ → List Outcome → ℕ → ℕ

@@ -7,7 +7,8 @@ ghost use mathlib.Core.Bool.{not};
 ghost use Rattle.laws.specs.Select.{anyOf};
 ghost use Rattle.source_records.specs.Records.{Placed};
 ghost use Rattle.plan_listing.specs.Listing.{maps, Beside};
-ghost use Rattle.plan.specs.Covered.{reachesAbove, someSet, flagsDiffer, siblingCovers, covered, Rooms};
+ghost use Rattle.plan.specs.Covered.{reachesAbove, siblingCovers, covered};
+ghost use Rattle.plan.specs.CoveredFlags.{someSet, flagsDiffer, Rooms};
 
 fn is_set(flag: u8) -> bool
     ensures { λ r. ⌜ r ≡ ltb 0 flag ⌝ }

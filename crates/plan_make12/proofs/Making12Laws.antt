@@ -8,7 +8,7 @@ use Rattle.laws.specs.Lists.{Pair, pairs}
 use Rattle.format12.proofs.TableLaws.{length-table}
 use Rattle.format12.specs.declared.Size.{Size as Size12}
 use Rattle.format12.specs.Format12.{format12, groups, sizeOf as sizeOf12, Columns as Columns12, Room as Room12}
-use Rattle.plan.specs.Front.{Front}
+use Rattle.plan.specs.Making.{Front}
 use Rattle.plan.proofs.MakingLaws.{front-even, front-few, Holds}
 
 pub front12 : (m : ℕ) (cs gs : List ℕ) → Front m cs gs → Columns12 (take m cs) (take m gs)

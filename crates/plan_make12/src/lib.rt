@@ -7,7 +7,7 @@ ghost use Rattle.laws.specs.Lists.{pairs};
 ghost use Rattle.plan_listing.specs.Listing.{listed};
 ghost use Rattle.format12.specs.Format12.{format12, sizeOf as sizeOf12, Room as Room12};
 ghost use Rattle.plan.specs.Making.{Pairs, Fronts};
-ghost use Rattle.plan.specs.Front.{Front};
+ghost use Rattle.plan.specs.Making.{Front};
 
 // The size of the format 12 subtable of the first m pairs.
 fn size12_of(codes: &[u32], glyphs: &[u16], m: usize) -> format12::Size

@@ -10,7 +10,7 @@ ghost use Rattle.format4.specs.declared.Size.the-variants.{Fits};
 ghost use Rattle.format4.specs.Format4.{format4};
 ghost use Rattle.format4.specs.Size.{sizeOf as sizeOf4, lengthOf as lengthOf4, Columns as Columns4};
 ghost use Rattle.plan.specs.Making.{Pairs, Leads, Fronts};
-ghost use Rattle.plan.specs.Front.{Front};
+ghost use Rattle.plan.specs.Making.{Front};
 ghost use Rattle.plan_make4.specs.Fits4.{Fits4};
 
 // The size of the format 4 subtable of the first m pairs.

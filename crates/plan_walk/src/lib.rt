@@ -1,39 +1,43 @@
 // What becomes of each record of a source: a walk in source order, with what earlier records came to. A record that no earlier table serves
 // makes its own.
 use plan::Outcome;
+use plan::Why;
 use source::Kind;
 ghost use mathlib.Core.Path.{_≡_};
+ghost use mathlib.Core.Bool.{true};
 ghost use Prim.Native.Nat.{_+_, _*_, _<_, _≤_};
 ghost use lib.ListN.{length};
 ghost use Rattle.number.specs.BigEndian.{be};
-ghost use Rattle.plan_listing.specs.Job.{job};
-ghost use Rattle.plan_listing.specs.Listing.{listed};
+ghost use Rattle.source_header.specs.Header.{recordCount};
+ghost use Rattle.source_records.specs.Records.{retained};
 ghost use Rattle.format4.specs.Size.{sizeOf as sizeOf4};
 ghost use Rattle.format12.specs.Format12.{sizeOf as sizeOf12};
-ghost use Rattle.plan.specs.Making.{Pairs, Leads};
 ghost use Rattle.format14.specs.Selectors.{given};
 ghost use Rattle.format14.specs.ByNumber.{slot, Readable};
 ghost use Rattle.format14.specs.Ends.{Ends};
 ghost use Rattle.format14.specs.Format14.{lengthIn, outcome as outcome14};
+ghost use Rattle.plan_listing.specs.Job.{job};
+ghost use Rattle.plan_listing.specs.Listing.{listed};
 ghost use Rattle.plan.specs.declared.Outcome.the-variants.{Made};
-ghost use Rattle.plan.specs.Outcomes.{Short, Small};
-ghost use Rattle.plan.specs.Fresh.{by4, by14, fresh, Short4, Ready};
-ghost use Rattle.plan.specs.RecordNotes.{Fronted, Turned, Notebook};
-ghost use mathlib.Core.Bool.{true};
-ghost use Rattle.plan.specs.Covered.{covered, Rooms};
-ghost use Rattle.source_header.specs.Header.{recordCount};
-ghost use Rattle.source_records.specs.Records.{retained};
-ghost use Rattle.plan.specs.Plan.{retainedOutcome, outcomeOf, plan, Prepared};
-ghost use Rattle.plan.specs.Notes.{Stays, Endings};
+ghost use Rattle.plan.specs.Sizes.{Short, Small};
+ghost use Rattle.plan.specs.Covered.{covered};
+ghost use Rattle.plan.specs.CoveredFlags.{Rooms};
+ghost use Rattle.plan.specs.Fresh.{by4, by14, fresh};
+ghost use Rattle.plan.specs.Making.{Pairs, Leads, Short4, Ready};
+ghost use Rattle.plan.specs.Plan.{retainedOutcome, outcomeOf, plan};
+ghost use Rattle.plan.specs.Prepared.{Prepared};
+ghost use Rattle.plan.specs.Notes.{outcomesIn, rowIn, frontsIn, endsIn, notesMax, Fronted, Endings, Notebook, Leaves, Turned, Stays};
 ghost use Rattle.plan.specs.Earlier.{Earlier, Tells};
+
+// ---- a record that no earlier table serves
 
 fn of_size4(size: format4::Size) -> Outcome
     requires { ⌜ Short4 size ⌝ }
     ensures { λ r. ⌜ (r ≡ by4 size) × Short r ⌝ }
 {
     match size {
-        format4::Size::Empty => Outcome::Empty,
-        format4::Size::TooLong => Outcome::TooLong,
+        format4::Size::Empty => Outcome::LeftOut(Why::Empty),
+        format4::Size::TooLong => Outcome::LeftOut(Why::TooLong),
         format4::Size::Fits(n) => Outcome::Made(16 + 8 * n.segments + 2 * n.glyphs),
     }
 }
@@ -44,7 +48,7 @@ fn of_outcome14(outcome: format14::Outcome) -> Outcome
 {
     match outcome {
         format14::Outcome::Refused8 => Outcome::BadMapping,
-        format14::Outcome::Empty => Outcome::Empty,
+        format14::Outcome::Empty => Outcome::LeftOut(Why::Empty),
         format14::Outcome::Length(n) => Outcome::Made(n),
     }
 }
@@ -58,16 +62,17 @@ fn fresh4(
     flags: &mut [u8],
     tocodes: &mut [u32],
     toglyphs: &mut [u16],
-    fronts: &mut [usize],
+    notes: &mut [usize],
 ) -> Outcome
     requires { ⌜ Pairs (now s) k n (now codes) (now glyphs) (now flags) (now tocodes) (now toglyphs) ⌝ }
     requires { ⌜ Leads (now s) k 4 ⌝ }
-    requires { ⌜ (k < 64) × Fronted (now s) n (now codes) (now glyphs) (now fronts) ⌝ }
+    requires { ⌜ (k < 64) × Fronted (now s) n (now codes) (now glyphs) (now notes) ⌝ }
     ensures { λ r. ⌜ (r ≡ by4 (sizeOf4 (listed (now (s .entry)) n (now (codes .entry)) (now (glyphs .entry)) k))) × Short r ⌝ }
-    ensures { λ _. ⌜ Fronted (now (s .entry)) n (now (codes .entry)) (now (glyphs .entry)) (now (fronts .exit)) ⌝ }
+    ensures { λ _. ⌜ Fronted (now (s .entry)) n (now (codes .entry)) (now (glyphs .entry)) (now (notes .exit)) ⌝ }
+    ensures { λ _. ⌜ (rowIn (now (notes .exit)) ≡ rowIn (now (notes .entry))) × (endsIn (now (notes .exit)) ≡ endsIn (now (notes .entry))) ⌝ }
 {
     let sized = plan_make4::size4(s, k, n, codes, glyphs, flags, tocodes, toglyphs);
-    fronts[k] = sized.front;
+    notes[plan::FRONTS + k] = sized.front;
     let size = sized.size;
     of_size4(size)
 }
@@ -81,15 +86,16 @@ fn fresh12(
     flags: &mut [u8],
     tocodes: &mut [u32],
     toglyphs: &mut [u16],
-    fronts: &mut [usize],
+    notes: &mut [usize],
 ) -> Outcome
     requires { ⌜ Pairs (now s) k n (now codes) (now glyphs) (now flags) (now tocodes) (now toglyphs) ⌝ }
-    requires { ⌜ (k < 64) × Fronted (now s) n (now codes) (now glyphs) (now fronts) ⌝ }
+    requires { ⌜ (k < 64) × Fronted (now s) n (now codes) (now glyphs) (now notes) ⌝ }
     ensures { λ r. ⌜ (r ≡ Made (sizeOf12 (listed (now (s .entry)) n (now (codes .entry)) (now (glyphs .entry)) k) .bytes)) × Short r ⌝ }
-    ensures { λ _. ⌜ Fronted (now (s .entry)) n (now (codes .entry)) (now (glyphs .entry)) (now (fronts .exit)) ⌝ }
+    ensures { λ _. ⌜ Fronted (now (s .entry)) n (now (codes .entry)) (now (glyphs .entry)) (now (notes .exit)) ⌝ }
+    ensures { λ _. ⌜ (rowIn (now (notes .exit)) ≡ rowIn (now (notes .entry))) × (endsIn (now (notes .exit)) ≡ endsIn (now (notes .entry))) ⌝ }
 {
     let sized = plan_make12::size12(s, k, n, codes, glyphs, flags, tocodes, toglyphs);
-    fronts[k] = sized.front;
+    notes[plan::FRONTS + k] = sized.front;
     let size = sized.size;
     Outcome::Made(size.bytes)
 }
@@ -102,19 +108,30 @@ fn fresh14(
     requested: &[u16],
     flags: &mut [u8],
     others: &mut [u8],
-    ends: &mut [usize],
+    notes: &mut [usize],
 ) -> Outcome
     requires { ⌜ Readable (now s) (subtable .at) (subtable .len) (now kept) (now requested) ⌝ }
     requires { ⌜ (length (now kept) ≤ length (now flags)) × (length (now kept) ≤ length (now others)) ⌝ }
-    requires { ⌜ 1024 ≤ length (now ends) ⌝ }
+    requires { ⌜ notesMax ≤ length (now notes) ⌝ }
     ensures { λ r. ⌜ (r ≡ by14 (outcome14 (given (now (s .entry)) (subtable .at) (subtable .len) (now (kept .entry)) (now (map .entry)) (now (requested .entry))))) × Short r ⌝ }
-    ensures { λ _. ⌜ Ends (slot (given (now (s .entry)) (subtable .at) (subtable .len) (now (kept .entry)) (now (map .entry)) (now (requested .entry)))) (2 * be 4 (now (s .entry)) (subtable .at + 6)) (now (ends .exit)) ⌝ }
+    ensures { λ _. ⌜ Ends (slot (given (now (s .entry)) (subtable .at) (subtable .len) (now (kept .entry)) (now (map .entry)) (now (requested .entry)))) (2 * be 4 (now (s .entry)) (subtable .at + 6)) (endsIn (now (notes .exit))) ⌝ }
+    ensures { λ _. ⌜ (rowIn (now (notes .exit)) ≡ rowIn (now (notes .entry))) × (frontsIn (now (notes .exit)) ≡ frontsIn (now (notes .entry))) ⌝ }
 {
-    of_outcome14(format14_writer::size(s, subtable, kept, map, requested, flags, others, ends))
+    let ends = plan::ENDS;
+    of_outcome14(format14_writer::size(
+        s,
+        subtable,
+        kept,
+        map,
+        requested,
+        flags,
+        others,
+        &mut notes[ends..],
+    ))
 }
 
 // What becomes of record k if no earlier table serves it, and what its writer may go by.
-pub fn fresh(
+fn fresh(
     s: &[u8],
     codes: &[u32],
     glyphs: &[u16],
@@ -125,15 +142,12 @@ pub fn fresh(
     others: &mut [u8],
     tocodes: &mut [u32],
     toglyphs: &mut [u16],
-    fronts: &mut [usize],
-    ends: &mut [usize],
+    notes: &mut [usize],
     k: usize,
 ) -> Outcome
-    requires { ⌜ Ready (job (now s) (now codes) (now glyphs) (now kept) (now map) (now requested)) k (now flags) (now tocodes) (now toglyphs) ⌝ }
-    requires { ⌜ Notebook (job (now s) (now codes) (now glyphs) (now kept) (now map) (now requested)) k (now others) (now fronts) (now ends) ⌝ }
-    ensures { λ r. ⌜ (r ≡ fresh (job (now (s .entry)) (now (codes .entry)) (now (glyphs .entry)) (now (kept .entry)) (now (map .entry)) (now (requested .entry))) k) × Short r ⌝ }
-    ensures { λ _. ⌜ Fronted (now (s .entry)) (length (now (map .entry))) (now (codes .entry)) (now (glyphs .entry)) (now (fronts .exit)) ⌝ }
-    ensures { λ r. ⌜ Turned (job (now (s .entry)) (now (codes .entry)) (now (glyphs .entry)) (now (kept .entry)) (now (map .entry)) (now (requested .entry))) k r (now (ends .entry)) (now (ends .exit)) ⌝ }
+    requires { ⌜ (let j = job (now s) (now codes) (now glyphs) (now kept) (now map) (now requested) in Ready j k (now flags) (now tocodes) (now toglyphs) × Notebook j k (now others) (now notes)) ⌝ }
+    ensures { λ r. ⌜ (let j = job (now (s .entry)) (now (codes .entry)) (now (glyphs .entry)) (now (kept .entry)) (now (map .entry)) (now (requested .entry)) in
+        ((r ≡ fresh j k) × Short r) × Leaves j (now (notes .entry)) (now (notes .exit)) × Turned j k r (now (notes .entry)) (now (notes .exit))) ⌝ }
 {
     let n = map.len() as u32;
     match source_records::leads_to(s, k) {
@@ -141,44 +155,19 @@ pub fn fresh(
             language: _,
             segments: _,
             length: _,
-        } => fresh4(s, k, n, codes, glyphs, flags, tocodes, toglyphs, fronts),
+        } => fresh4(s, k, n, codes, glyphs, flags, tocodes, toglyphs, notes),
         Kind::Format12 {
             language: _,
             groups: _,
             length: _,
-        } => fresh12(s, k, n, codes, glyphs, flags, tocodes, toglyphs, fronts),
+        } => fresh12(s, k, n, codes, glyphs, flags, tocodes, toglyphs, notes),
         Kind::Format14 { records: _, length } => {
             let at = source_header::offset_of(s, k);
-            let subtable = format14::Subtable {
-                at: at,
-                len: length,
-            };
-            fresh14(s, subtable, kept, map, requested, flags, others, ends)
+            let subtable = format14::Subtable { at, len: length };
+            fresh14(s, subtable, kept, map, requested, flags, others, notes)
         }
-        Kind::Unreadable => Outcome::Skipped,
+        Kind::Unreadable => Outcome::LeftOut(Why::Skipped),
     }
-}
-
-// Whether record k is covered; where an earlier record is of its pair and offset, that one tells.
-fn is_dropped(
-    s: &[u8],
-    m: usize,
-    k: usize,
-    n: u32,
-    kept: &[u32],
-    flags: &mut [u8],
-    others: &mut [u8],
-    os: [Outcome; 64],
-) -> bool
-    requires { ⌜ Rooms (now s) m k n (now kept) (now flags) (now others) ⌝ }
-    requires { ⌜ Tells (now s) n (now kept) os k ⌝ }
-    ensures { λ t. ⌜ t ≡ covered (now (s .entry)) n (now (kept .entry)) k ⌝ }
-{
-    let r = plan_tests::twin(s, k);
-    if r < k {
-        return plan_tests::is_covered(os[r]);
-    }
-    plan_covered::can_drop_format12(s, m, k, n, kept, flags, others)
 }
 
 // The same as `fresh`; no subtable is walked again that came to nothing for an earlier record.
@@ -193,21 +182,17 @@ fn unserved_outcome(
     others: &mut [u8],
     tocodes: &mut [u32],
     toglyphs: &mut [u16],
-    fronts: &mut [usize],
-    ends: &mut [usize],
-    os: [Outcome; 64],
+    notes: &mut [usize],
     k: usize,
 ) -> Outcome
-    requires { ⌜ Earlier (job (now s) (now codes) (now glyphs) (now kept) (now map) (now requested)) os k ⌝ }
-    requires { ⌜ Ready (job (now s) (now codes) (now glyphs) (now kept) (now map) (now requested)) k (now flags) (now tocodes) (now toglyphs) ⌝ }
-    requires { ⌜ Notebook (job (now s) (now codes) (now glyphs) (now kept) (now map) (now requested)) k (now others) (now fronts) (now ends) ⌝ }
-    ensures { λ r. ⌜ (r ≡ fresh (job (now (s .entry)) (now (codes .entry)) (now (glyphs .entry)) (now (kept .entry)) (now (map .entry)) (now (requested .entry))) k) × Short r ⌝ }
-    ensures { λ _. ⌜ Fronted (now (s .entry)) (length (now (map .entry))) (now (codes .entry)) (now (glyphs .entry)) (now (fronts .exit)) ⌝ }
-    ensures { λ r. ⌜ Turned (job (now (s .entry)) (now (codes .entry)) (now (glyphs .entry)) (now (kept .entry)) (now (map .entry)) (now (requested .entry))) k r (now (ends .entry)) (now (ends .exit)) ⌝ }
+    requires { ⌜ (let j = job (now s) (now codes) (now glyphs) (now kept) (now map) (now requested) in
+        Earlier j (outcomesIn k (now notes)) k × Ready j k (now flags) (now tocodes) (now toglyphs) × Notebook j k (now others) (now notes)) ⌝ }
+    ensures { λ r. ⌜ (let j = job (now (s .entry)) (now (codes .entry)) (now (glyphs .entry)) (now (kept .entry)) (now (map .entry)) (now (requested .entry)) in
+        ((r ≡ fresh j k) × Short r) × Leaves j (now (notes .entry)) (now (notes .exit)) × Turned j k r (now (notes .entry)) (now (notes .exit))) ⌝ }
 {
-    let r = plan_tests::spent(s, os, k);
+    let r = plan_outcomes::spent(s, notes, k);
     if r < k {
-        return os[r];
+        return plan_outcomes::outcome_at(notes, r);
     }
     fresh(
         s,
@@ -220,15 +205,38 @@ fn unserved_outcome(
         others,
         tocodes,
         toglyphs,
-        fronts,
-        ends,
+        notes,
         k,
     )
 }
 
+// ---- any record
+
+// Whether record k is covered; where an earlier record is of its pair and offset, that one tells.
+fn is_dropped(
+    s: &[u8],
+    k: usize,
+    n: u32,
+    kept: &[u32],
+    flags: &mut [u8],
+    others: &mut [u8],
+    notes: &[usize],
+) -> bool
+    requires { ⌜ Rooms (now s) (recordCount (now s)) k n (now kept) (now flags) (now others) ⌝ }
+    requires { ⌜ Tells (now s) n (now kept) (outcomesIn k (now notes)) k ⌝ }
+    requires { ⌜ k ≤ length (now notes) ⌝ }
+    ensures { λ t. ⌜ t ≡ covered (now (s .entry)) n (now (kept .entry)) k ⌝ }
+{
+    let r = plan_outcomes::twin(s, k);
+    if r < k {
+        return plan_outcomes::is_covered(plan_outcomes::outcome_at(notes, r));
+    }
+    let m = source_header::record_count(s);
+    plan_covered::can_drop_format12(s, m, k, n, kept, flags, others)
+}
+
 fn retained_outcome(
     s: &[u8],
-    m: usize,
     codes: &[u32],
     glyphs: &[u16],
     kept: &[u32],
@@ -238,25 +246,22 @@ fn retained_outcome(
     others: &mut [u8],
     tocodes: &mut [u32],
     toglyphs: &mut [u16],
-    fronts: &mut [usize],
-    ends: &mut [usize],
-    os: [Outcome; 64],
+    notes: &mut [usize],
     k: usize,
 ) -> Outcome
-    requires { ⌜ Earlier (job (now s) (now codes) (now glyphs) (now kept) (now map) (now requested)) os k ⌝ }
-    requires { ⌜ Ready (job (now s) (now codes) (now glyphs) (now kept) (now map) (now requested)) k (now flags) (now tocodes) (now toglyphs) ⌝ }
-    requires { ⌜ Rooms (now s) m k (length (now map)) (now kept) (now flags) (now others) ⌝ }
+    requires { ⌜ (let j = job (now s) (now codes) (now glyphs) (now kept) (now map) (now requested) in
+        Earlier j (outcomesIn k (now notes)) k × Ready j k (now flags) (now tocodes) (now toglyphs) × Notebook j k (now others) (now notes)) ⌝ }
+    requires { ⌜ Rooms (now s) (recordCount (now s)) k (length (now map)) (now kept) (now flags) (now others) ⌝ }
     requires { ⌜ retained (now s) k ≡ true ⌝ }
-    requires { ⌜ Notebook (job (now s) (now codes) (now glyphs) (now kept) (now map) (now requested)) k (now others) (now fronts) (now ends) ⌝ }
-    ensures { λ r. ⌜ (r ≡ retainedOutcome (job (now (s .entry)) (now (codes .entry)) (now (glyphs .entry)) (now (kept .entry)) (now (map .entry)) (now (requested .entry))) os k) × Short r ⌝ }
-    ensures { λ _. ⌜ Fronted (now (s .entry)) (length (now (map .entry))) (now (codes .entry)) (now (glyphs .entry)) (now (fronts .exit)) ⌝ }
-    ensures { λ r. ⌜ Stays (job (now (s .entry)) (now (codes .entry)) (now (glyphs .entry)) (now (kept .entry)) (now (map .entry)) (now (requested .entry))) os k r (now (ends .entry)) (now (ends .exit)) ⌝ }
+    ensures { λ r. ⌜ (let j = job (now (s .entry)) (now (codes .entry)) (now (glyphs .entry)) (now (kept .entry)) (now (map .entry)) (now (requested .entry)) in
+        ((r ≡ retainedOutcome j (outcomesIn k (now (notes .entry))) k) × Short r) × Leaves j (now (notes .entry)) (now (notes .exit))
+        × Stays j (outcomesIn k (now (notes .entry))) k r (now (notes .entry)) (now (notes .exit))) ⌝ }
 {
     let n = map.len() as u32;
-    if is_dropped(s, m, k, n, kept, flags, others, os) {
-        return Outcome::Covered;
+    if is_dropped(s, k, n, kept, flags, others, notes) {
+        return Outcome::LeftOut(Why::Covered);
     }
-    let r = plan_tests::server(s, os, k);
+    let r = plan_outcomes::server(s, notes, k);
     if r < k {
         return Outcome::Served(r);
     }
@@ -271,17 +276,14 @@ fn retained_outcome(
         others,
         tocodes,
         toglyphs,
-        fronts,
-        ends,
-        os,
+        notes,
         k,
     )
 }
 
-// What becomes of record k of m, where os holds what became of those before it.
+// What becomes of record k, where the notes hold what became of those before it.
 fn outcome_of(
     s: &[u8],
-    m: usize,
     codes: &[u32],
     glyphs: &[u16],
     kept: &[u32],
@@ -291,23 +293,19 @@ fn outcome_of(
     others: &mut [u8],
     tocodes: &mut [u32],
     toglyphs: &mut [u16],
-    fronts: &mut [usize],
-    ends: &mut [usize],
-    os: [Outcome; 64],
+    notes: &mut [usize],
     k: usize,
 ) -> Outcome
-    requires { ⌜ Earlier (job (now s) (now codes) (now glyphs) (now kept) (now map) (now requested)) os k ⌝ }
-    requires { ⌜ Ready (job (now s) (now codes) (now glyphs) (now kept) (now map) (now requested)) k (now flags) (now tocodes) (now toglyphs) ⌝ }
-    requires { ⌜ Rooms (now s) m k (length (now map)) (now kept) (now flags) (now others) ⌝ }
-    requires { ⌜ Notebook (job (now s) (now codes) (now glyphs) (now kept) (now map) (now requested)) k (now others) (now fronts) (now ends) ⌝ }
-    ensures { λ r. ⌜ (r ≡ outcomeOf (job (now (s .entry)) (now (codes .entry)) (now (glyphs .entry)) (now (kept .entry)) (now (map .entry)) (now (requested .entry))) os k) × Short r ⌝ }
-    ensures { λ _. ⌜ Fronted (now (s .entry)) (length (now (map .entry))) (now (codes .entry)) (now (glyphs .entry)) (now (fronts .exit)) ⌝ }
-    ensures { λ r. ⌜ Stays (job (now (s .entry)) (now (codes .entry)) (now (glyphs .entry)) (now (kept .entry)) (now (map .entry)) (now (requested .entry))) os k r (now (ends .entry)) (now (ends .exit)) ⌝ }
+    requires { ⌜ (let j = job (now s) (now codes) (now glyphs) (now kept) (now map) (now requested) in
+        Earlier j (outcomesIn k (now notes)) k × Ready j k (now flags) (now tocodes) (now toglyphs) × Notebook j k (now others) (now notes)) ⌝ }
+    requires { ⌜ Rooms (now s) (recordCount (now s)) k (length (now map)) (now kept) (now flags) (now others) ⌝ }
+    ensures { λ r. ⌜ (let j = job (now (s .entry)) (now (codes .entry)) (now (glyphs .entry)) (now (kept .entry)) (now (map .entry)) (now (requested .entry)) in
+        ((r ≡ outcomeOf j (outcomesIn k (now (notes .entry))) k) × Short r) × Leaves j (now (notes .entry)) (now (notes .exit))
+        × Stays j (outcomesIn k (now (notes .entry))) k r (now (notes .entry)) (now (notes .exit))) ⌝ }
 {
     if source_retained::retain_encoding_record_for_subset(s, k) {
         return retained_outcome(
             s,
-            m,
             codes,
             glyphs,
             kept,
@@ -317,19 +315,16 @@ fn outcome_of(
             others,
             tocodes,
             toglyphs,
-            fronts,
-            ends,
-            os,
+            notes,
             k,
         );
     }
-    Outcome::NotRetained
+    Outcome::LeftOut(Why::NotRetained)
 }
 
-// What becomes of each of the m records, and in the last two slices what their writer may go by; the four before them are work room.
+// Notes what becomes of each record, and what the writer of its table may go by; the four slices before the notes are work room.
 pub fn plan(
     s: &[u8],
-    m: usize,
     codes: &[u32],
     glyphs: &[u16],
     kept: &[u32],
@@ -339,22 +334,19 @@ pub fn plan(
     others: &mut [u8],
     tocodes: &mut [u32],
     toglyphs: &mut [u16],
-    fronts: &mut [usize],
-    ends: &mut [usize],
-) -> [Outcome; 64]
-    requires { ⌜ Prepared (job (now s) (now codes) (now glyphs) (now kept) (now map) (now requested)) m (now flags) (now others) (now tocodes) (now toglyphs) ⌝ }
-    requires { ⌜ Fronted (now s) (length (now map)) (now codes) (now glyphs) (now fronts) ⌝ }
-    requires { ⌜ 1024 ≤ length (now ends) ⌝ }
-    ensures { λ r. ⌜ (r ≡ plan (job (now (s .entry)) (now (codes .entry)) (now (glyphs .entry)) (now (kept .entry)) (now (map .entry)) (now (requested .entry)))) × Small r ⌝ }
-    ensures { λ _. ⌜ Fronted (now (s .entry)) (length (now (map .entry))) (now (codes .entry)) (now (glyphs .entry)) (now (fronts .exit)) ⌝ }
-    ensures { λ r. ⌜ Endings (job (now (s .entry)) (now (codes .entry)) (now (glyphs .entry)) (now (kept .entry)) (now (map .entry)) (now (requested .entry))) r (recordCount (now (s .entry))) (now (ends .exit)) ⌝ }
+    notes: &mut [usize],
+)
+    requires { ⌜ Prepared (job (now s) (now codes) (now glyphs) (now kept) (now map) (now requested)) (now flags) (now others) (now tocodes) (now toglyphs) ⌝ }
+    requires { ⌜ Fronted (now s) (length (now map)) (now codes) (now glyphs) (now notes) ⌝ }
+    ensures { λ _. ⌜ (let j = job (now (s .entry)) (now (codes .entry)) (now (glyphs .entry)) (now (kept .entry)) (now (map .entry)) (now (requested .entry)) in let os = outcomesIn (recordCount (now (s .entry))) (now (notes .exit)) in
+        ((os ≡ plan j) × Small os) × Fronted (now (s .entry)) (length (now (map .entry))) (now (codes .entry)) (now (glyphs .entry)) (now (notes .exit))
+        × Endings j os (recordCount (now (s .entry))) (now (notes .exit))) ⌝ }
 {
-    let mut os = [Outcome::NotRetained; 64];
+    let m = source_header::record_count(s);
     let mut k = 0;
     while k < m {
         let o = outcome_of(
             s,
-            m,
             codes,
             glyphs,
             kept,
@@ -364,13 +356,10 @@ pub fn plan(
             others,
             tocodes,
             toglyphs,
-            fronts,
-            ends,
-            os,
+            notes,
             k,
         );
-        os[k] = o;
+        plan_outcomes::note(notes, k, o);
         k += 1;
     }
-    os
 }

@@ -1,14 +1,19 @@
 -- How many records are written, which of them is the i-th, and how long the tables of several records are together.
 use Prim.Native.Nat.{ℕ, zero, suc, _+_, _<_, _≤_}
-use mathlib.Core.Path.{_≡_, refl, ap, _∙_}
-use mathlib.Core.List.{List}
+use mathlib.Core.Path.{_≡_, refl, ap, _∙_, sym}
+use mathlib.Core.List.{List, [], _++_, append-nil, append-assoc}
 use mathlib.Core.Bool.{true, false}
 use native.Mathlib.Nat.{zero-add, add-zero}
 use native.Mathlib.Omega.{arith}
 use Rattle.laws.proofs.ChoiceLaws.{by-pick, by-test}
 use Rattle.plan.specs.declared.Outcome.{Outcome}
-use Rattle.plan.specs.Outcomes.{madeSize}
-use Rattle.result.specs.Result.{isWritten, at, countFrom, sizesFrom}
+use Rattle.plan.specs.Sizes.{madeSize}
+use Rattle.result.specs.Result.{countFrom, tablesFrom}
+use Rattle.result.specs.Layout.{sizesFrom}
+use Rattle.plan.specs.Outcomes.{isWritten, at, isMade}
+use Rattle.plan_listing.specs.Job.{Job}
+use Rattle.laws.specs.Choice.{pick}
+use Rattle.plan.specs.Fresh.{tableOf}
 
 -- the place of the i-th written record among the n records from k on
 pub record Ith (os : List Outcome) (n k i : ℕ) : Type 0 where
@@ -91,3 +96,15 @@ module _ (os : List Outcome) where
       let p : suc n ≡ n + 1 = omega arith in
       let r = sizes-split n 1 k in
       ap (λ (m : ℕ). sizesFrom os m k) p ∙ r ∙ omega arith
+
+-- ---- tables
+
+-- one record more: its table stands before the others
+pub tables-snoc : (j : Job) (os : List Outcome) (n k : ℕ) → tablesFrom j os (suc n) k ≡ pick (isMade (at os (k + n))) (tableOf j (k + n)) [] ++ tablesFrom j os n k
+unfolding tablesFrom
+tables-snoc j os zero k = rw (add-zero k) (sym (append-nil (pick (isMade (at os k)) (tableOf j k) [])))
+tables-snoc j os (suc n) k =
+    let e : k + suc n ≡ k + 1 + n = omega arith in
+    rw e
+    (ap (λ (z : List ℕ). z ++ pick (isMade (at os k)) (tableOf j k) []) (tables-snoc j os n (k + 1))
+    ∙ append-assoc (pick (isMade (at os (k + 1 + n))) (tableOf j (k + 1 + n)) []) (tablesFrom j os n (k + 1)) (pick (isMade (at os k)) (tableOf j k) []))

@@ -33,8 +33,10 @@ use Rattle.format14.specs.declared.Outcome.the-variants.{Refused8, Empty as Emp
 use Rattle.format14.specs.Format14.{outcome as outcome14}
 use Rattle.format14.proofs.WholeLaws.{outcome-says}
 use Rattle.plan.specs.declared.Outcome.{Outcome}
-use Rattle.plan.specs.declared.Outcome.the-variants.{Skipped, Made}
-use Rattle.plan.specs.Outcomes.{isMade, madeSize}
+use Rattle.plan.specs.declared.Why.the-variants.{Skipped}
+use Rattle.plan.specs.declared.Outcome.the-variants.{LeftOut, Made}
+use Rattle.plan.specs.Outcomes.{isMade}
+use Rattle.plan.specs.Sizes.{madeSize}
 use Rattle.plan.specs.Fresh.{listedOf, givenOf, tableAs, tableOf, by4, by14, freshAs, fresh}
 
 -- another outcome than a made table
@@ -92,7 +94,7 @@ module _ (j : Job) (k n : ℕ) (made : fresh j k ≡ Made n) where
       go (Format4 language s len) e = made4 language (listedOf j k) n (sizeOf4 (listedOf j k)) refl e .long
       go (Format12 language g len) e = sym (ap madeSize e) ∙ sym (length-table 12 language (groups (listedOf j k)))
       go (Format14 r len) e = outcome-says (givenOf j k len) n (made14 (outcome14 (givenOf j k len)) n e)
-      go Unreadable e = not-made (n ≡ 0) Skipped n refl e
+      go Unreadable e = not-made (n ≡ 0) (LeftOut Skipped) n refl e
 
   -- the record leads to a readable subtable
   pub by-format : (P : Type 0) → ((language s len : ℕ) → leadsTo (j .source) k ≡ Format4 language s len → P)
@@ -104,7 +106,7 @@ module _ (j : Job) (k n : ℕ) (made : fresh j k ≡ Made n) where
       go (Format4 language s len) e = f4 language s len e
       go (Format12 language g len) e = f12 language g len e
       go (Format14 r len) e = f14 r len e
-      go Unreadable e = not-made P Skipped n refl (made-as Unreadable e)
+      go Unreadable e = not-made P (LeftOut Skipped) n refl (made-as Unreadable e)
 
   pub made-readable : formatOf (leadsTo (j .source) k) ≡ 0 → ⊥
   made-readable z =

@@ -20,7 +20,8 @@ use Rattle.plan_listing.specs.Job.{Job}
 use Rattle.format12_lookup.proofs.BytesLaws.{groups-few}
 use Rattle.format12_lookup.proofs.Format12KindLaws.{length-is}
 use Rattle.plan.specs.declared.Outcome.the-variants.{Made}
-use Rattle.plan.specs.Outcomes.{isMade, madeSize}
+use Rattle.plan.specs.Outcomes.{isMade}
+use Rattle.plan.specs.Sizes.{madeSize}
 use Rattle.plan.specs.Fresh.{listedOf, fresh}
 use Rattle.plan.specs.Plan.{plan}
 use Rattle.plan.proofs.SizeLaws.{made-size, unmade-size}
@@ -29,13 +30,16 @@ use Rattle.result.proofs.ListedLaws.{above-listed}
 use Rattle.result.proofs.MadeLaws.{made-length, by-format, made-written4, table-is}
 use Rattle.result.proofs.TablesLaws.{made-short}
 use Rattle.result.proofs.PlanLaws.{Making, plan-past, plan-made, plan-served}
-use Rattle.result.specs.Result.{at, makes, sizesFrom}
+use Rattle.result.specs.Result.{makes}
+use Rattle.result.specs.Layout.{sizesFrom}
+use Rattle.plan.specs.Outcomes.{at}
 use Rattle.result.proofs.CountLaws.{count-few, sizes-snoc}
 use Rattle.result.proofs.PlacesLaws.{Sound}
+use Rattle.plan.proofs.OutcomesLaws.{length-plan}
 
 module _ (j : Job) (l : Lent j) (few : recordCount (j .source) ≤ recordsMax) where
   pub making : (k : ℕ) → isMade (at (plan j) k) ≡ true → Making j k (madeSize (at (plan j) k))
-  making k e = plan-made j few k (madeSize (at (plan j) k)) (made-size (at (plan j) k) e)
+  making k e = plan-made j k (madeSize (at (plan j) k)) (made-size (at (plan j) k) e)
 
   -- ---- how long a table can be
 
@@ -53,12 +57,12 @@ module _ (j : Job) (l : Lent j) (few : recordCount (j .source) ≤ recordsMax) w
 
   -- `most` bytes if the record that makes a table of the format is one of the first n
   share : ℕ → ℕ → ℕ → ℕ
-  share format most n = pick (ltb (first (makes j (plan j) format) 64 0) n) most 0
+  share format most n = pick (ltb (first (makes j (plan j) format) (length (plan j)) 0) n) most 0
 
   share-on : (format most n : ℕ) → share format most n ≤ share format most (suc n)
   unfolding share
   share-on format most n =
-      let r = first (makes j (plan j) format) 64 0 in
+      let r = first (makes j (plan j) format) (length (plan j)) 0 in
       by-test (share format most n ≤ share format most (suc n)) (ltb r n)
       (λ e.
       let h = ltb-true r n e in
@@ -66,10 +70,10 @@ module _ (j : Job) (l : Lent j) (few : recordCount (j .source) ≤ recordsMax) w
       (λ e. rw e (omega arith))
 
   -- no record before it made one of its format
-  pub first-maker : (k format : ℕ) → isMade (at (plan j) k) ≡ true → formatOf (leadsTo (j .source) k) ≡ format → first (makes j (plan j) format) 64 0 ≡ k
+  pub first-maker : (k format : ℕ) → isMade (at (plan j) k) ≡ true → formatOf (leadsTo (j .source) k) ≡ format → first (makes j (plan j) format) (length (plan j)) 0 ≡ k
   first-maker k format m f =
       let t = making k m in
-      first-is (makes j (plan j) format) 64 k (omega (arith, t .inside))
+      first-is (makes j (plan j) format) (length (plan j)) k (omega (arith, t .inside, length-plan j))
       (rw (m, eq-eqb (formatOf (leadsTo (j .source) k)) format f))
       (λ r h.
       not-true (makes j (plan j) format r)
@@ -78,11 +82,11 @@ module _ (j : Job) (l : Lent j) (few : recordCount (j .source) ≤ recordsMax) w
       let b = both-right (isMade (at (plan j) r)) (leadsToFormat format (j .source) r) e in
       t .alone r (madeSize (at (plan j) r)) h (made-size (at (plan j) r) a) (eqb-true (formatOf (leadsTo (j .source) r)) format b ∙ sym f)))
 
-  share-before : (k format most : ℕ) → first (makes j (plan j) format) 64 0 ≡ k → share format most k ≡ 0
+  share-before : (k format most : ℕ) → first (makes j (plan j) format) (length (plan j)) 0 ≡ k → share format most k ≡ 0
   unfolding share
   share-before k format most e = rw (e, le-ltb k k (omega arith))
 
-  share-after : (k format most : ℕ) → first (makes j (plan j) format) 64 0 ≡ k → share format most (suc k) ≡ most
+  share-after : (k format most : ℕ) → first (makes j (plan j) format) (length (plan j)) 0 ≡ k → share format most (suc k) ≡ most
   unfolding share
   share-after k format most e = rw (e, lt-ltb k (suc k) (omega arith))
 
@@ -118,18 +122,20 @@ module _ (j : Job) (l : Lent j) (few : recordCount (j .source) ≤ recordsMax) w
   share-most : (format most n : ℕ) → share format most n ≤ most
   unfolding share
   share-most format most n =
-      by-test (share format most n ≤ most) (ltb (first (makes j (plan j) format) 64 0) n) (λ e. rw e (omega arith)) (λ e. rw e (omega arith))
+      by-test (share format most n ≤ most) (ltb (first (makes j (plan j) format) (length (plan j)) 0) n) (λ e. rw e (omega arith)) (λ e. rw e (omega arith))
 
   -- ---- sound
 
   pub plan-sound : Sound j (plan j)
   unfolding shares
   plan-sound = record {
-    past = λ k h. plan-past j few k (omega arith);
-    made = λ k n e. made-length j k n (plan-made j few k n e .is);
+    few = omega (arith, few, length-plan j);
+    made = λ k n e. made-length j k n (plan-made j k n e .is);
     served = λ k r e.
-        let t = plan-served j few k r e in
+        let t = plan-served j k r e in
         record { earlier = omega (arith, t .earlier); maker = rw (t .made) refl; alike = t .same };
-    small = omega (arith, count-few (plan j) 64 0, sizes-shared 64, share-most 4 65535 64, share-most 12 13369360 64, share-most 14 2147483648 64);
+    small =
+        let n = length (plan j) in
+        omega (arith, few, length-plan j, count-few (plan j) n 0, sizes-shared n, share-most 4 65535 n, share-most 12 13369360 n, share-most 14 2147483648 n);
     bytes = l .bytes;
   }

@@ -1,3 +1,4 @@
 pub mod Refusal
 pub mod Result
+pub mod Layout
 pub mod Lent

@@ -1,14 +1,21 @@
--- What is asked for to say where the tables of a result stand.
+-- Inner: what is asked for to say where the tables of a result stand; no promise names it.
 use Prim.Native.Nat.{ℕ, _≤_}
 use mathlib.Core.Path.{_≡_}
 use mathlib.Core.List.{List}
+use lib.ListN.{length}
 use Rattle.number.specs.Limits.{recordsMax}
-use Rattle.plan.specs.declared.Outcome.{Outcome}
-use Rattle.plan.specs.Outcomes.{Small}
+use Rattle.plan.specs.Sizes.{Small}
+use Rattle.plan.specs.Notes.{outcomesIn}
 use Rattle.result.specs.Result.{written}
 
--- so many records of a plan are written
-pub record Counts (os : List Outcome) (count : ℕ) : Type 0 where
-  pub small : Small os
-  pub is : count ≡ written os
-  pub few : count ≤ recordsMax
+-- the outcomes of m records are noted
+pub record Told (m : ℕ) (notes : List ℕ) : Type 0 where
+  pub few : m ≤ recordsMax
+  pub long : m ≤ length notes
+  pub small : Small (outcomesIn m notes)
+
+-- and so many of them are written
+pub record Counts (m : ℕ) (notes : List ℕ) (count : ℕ) : Type 0 where
+  pub told : Told m notes
+  pub is : count ≡ written (outcomesIn m notes)
+  pub few : count ≤ m

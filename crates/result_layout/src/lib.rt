@@ -1,67 +1,24 @@
-// Where the tables of a result stand: how many records are written, with whose tables, and how long the result is.
-use plan::Outcome;
+// Where the tables of a result stand: how many records are written, and how long their tables are.
 ghost use mathlib.Core.Path.{_≡_};
-ghost use Prim.Native.Nat.{_*_, _-_, _≤_, _+_, _<_};
-ghost use Rattle.plan.specs.Outcomes.{madeSize, Small};
-ghost use Rattle.result.specs.Result.{isWritten, makerOf, sizesFrom, written, offsetOf, resultLength};
-ghost use Rattle.result_layout.specs.Counts.{Counts};
+ghost use Prim.Native.Nat.{_+_, _-_, _*_, _≤_, _<_};
+ghost use lib.ListN.{length};
+ghost use Rattle.plan.specs.Sizes.{Small};
+ghost use Rattle.plan.specs.Notes.{outcomesIn};
+ghost use Rattle.result.specs.Result.{written};
+ghost use Rattle.result.specs.Layout.{sizesFrom, placeOf, resultLength};
+ghost use Rattle.result_layout.specs.Counts.{Told, Counts};
 
-pub fn is_written(o: Outcome) -> bool
-    ensures { λ r. ⌜ r ≡ isWritten o ⌝ }
-{
-    match o {
-        Outcome::NotRetained => false,
-        Outcome::Skipped => false,
-        Outcome::Empty => false,
-        Outcome::TooLong => false,
-        Outcome::Covered => false,
-        Outcome::BadMapping => false,
-        Outcome::Served(_) => true,
-        Outcome::Made(_) => true,
-    }
-}
-
-pub fn size_of(o: Outcome) -> usize
-    ensures { λ r. ⌜ r ≡ madeSize o ⌝ }
-{
-    match o {
-        Outcome::NotRetained => 0,
-        Outcome::Skipped => 0,
-        Outcome::Empty => 0,
-        Outcome::TooLong => 0,
-        Outcome::Covered => 0,
-        Outcome::BadMapping => 0,
-        Outcome::Served(_) => 0,
-        Outcome::Made(size) => size,
-    }
-}
-
-// The record whose table record k is written with.
-pub fn maker_of(o: Outcome, k: usize) -> usize
-    ensures { λ r. ⌜ r ≡ makerOf o k ⌝ }
-{
-    match o {
-        Outcome::Served(by) => by,
-        Outcome::NotRetained => k,
-        Outcome::Skipped => k,
-        Outcome::Empty => k,
-        Outcome::TooLong => k,
-        Outcome::Covered => k,
-        Outcome::BadMapping => k,
-        Outcome::Made(_) => k,
-    }
-}
-
-// How many records are written.
-pub fn count_written(os: [Outcome; 64]) -> usize
-    ensures { λ r. ⌜ (r ≡ written os) × (r ≤ 64) ⌝ }
+// How many of the m records are written.
+pub fn count_written(notes: &[usize], m: usize) -> usize
+    requires { ⌜ m ≤ length (now notes) ⌝ }
+    ensures { λ r. ⌜ (r ≡ written (outcomesIn m (now (notes .entry)))) × (r ≤ m) ⌝ }
 {
     let mut n: usize = 0;
     let mut k = 0;
-    while k < 64 {
-        let o = os[k];
+    while k < m {
+        let o = plan_outcomes::outcome_at(notes, k);
         k += 1;
-        if is_written(o) {
+        if plan_outcomes::is_written(o) {
             n += 1;
         }
     }
@@ -69,33 +26,33 @@ pub fn count_written(os: [Outcome; 64]) -> usize
 }
 
 // The lengths of the tables that the records from k on made, together.
-pub fn sizes_from(os: [Outcome; 64], k: usize) -> usize
-    requires { ⌜ Small os ⌝ }
-    requires { ⌜ k ≤ 64 ⌝ }
-    ensures { λ r. ⌜ (r ≡ sizesFrom os (64 - k) k) × (r ≤ 64 * 4294967296) ⌝ }
+pub fn sizes_from(notes: &[usize], m: usize, k: usize) -> usize
+    requires { ⌜ Told m (now notes) ⌝ }
+    requires { ⌜ k ≤ m ⌝ }
+    ensures { λ r. ⌜ (r ≡ sizesFrom (outcomesIn m (now (notes .entry))) (m - k) k) × (r ≤ 64 * 4294967296) ⌝ }
 {
     let mut n: usize = 0;
     let mut i = k;
-    while i < 64 {
-        n += size_of(os[i]);
+    while i < m {
+        n += plan_outcomes::size_of(plan_outcomes::outcome_at(notes, i));
         i += 1;
     }
     n
 }
 
 // Where the table of record k stands, in a result of that many records.
-pub fn offset_of(os: [Outcome; 64], k: usize, count: usize) -> usize
-    requires { ⌜ Counts os count ⌝ }
-    requires { ⌜ k < 64 ⌝ }
-    ensures { λ r. ⌜ r ≡ offsetOf os k ⌝ }
+pub fn offset_of(notes: &[usize], m: usize, k: usize, count: usize) -> usize
+    requires { ⌜ Counts m (now notes) count ⌝ }
+    requires { ⌜ k < m ⌝ }
+    ensures { λ r. ⌜ r ≡ placeOf (outcomesIn m (now (notes .entry))) k ⌝ }
 {
-    4 + 8 * count + sizes_from(os, k + 1)
+    4 + 8 * count + sizes_from(notes, m, k + 1)
 }
 
 // The length of the whole result.
-pub fn result_length(os: [Outcome; 64], count: usize) -> usize
-    requires { ⌜ Counts os count ⌝ }
-    ensures { λ r. ⌜ r ≡ resultLength os ⌝ }
+pub fn result_length(notes: &[usize], m: usize, count: usize) -> usize
+    requires { ⌜ Counts m (now notes) count ⌝ }
+    ensures { λ r. ⌜ r ≡ resultLength (outcomesIn m (now (notes .entry))) ⌝ }
 {
-    4 + 8 * count + sizes_from(os, 0)
+    4 + 8 * count + sizes_from(notes, m, 0)
 }

@@ -13,12 +13,14 @@ use Rattle.number.specs.BigEndian.{enc, put}
 use Rattle.number.proofs.BigEndianLaws.{length-enc, pow-pos}
 use Rattle.source_header.specs.declared.EncodingRecord.{EncodingRecord}
 use Rattle.source_header.specs.Header.{recordOf}
-use Rattle.plan_listing.specs.Job.{Job}
 use Rattle.plan.specs.declared.Outcome.{Outcome}
-use Rattle.plan.specs.declared.Outcome.the-variants.{NotRetained}
-use Rattle.result.specs.Result.{isWritten, makerOf, at, countFrom, offsetOf, recordBytes, recordsFrom}
+use Rattle.result.specs.Result.{countFrom, recordBytes, recordsFrom}
+use Rattle.result.specs.Layout.{placeOf}
+use Rattle.plan.specs.Outcomes.{isWritten, makerOf, at}
 use Rattle.result.proofs.LengthLaws.{length-record}
-use Rattle.result_writer.specs.RecordParts.{sourced, Recorded, Laid}
+use Rattle.result_writer.specs.RecordParts.{Recorded, Laid}
+use Rattle.plan.specs.Notes.{tells, outcomesIn}
+use Rattle.plan.proofs.NotedLaws.{at-noted, length-noted}
 
 -- ---- version 0 and the count
 
@@ -61,81 +63,98 @@ numbers-are out mid two fin i x y z e₁ e₂ e₃ =
 
 -- ---- one record
 
--- only the source counts
-pub records-sourced : (j : Job) (os : List Outcome) (n k : ℕ) → recordsFrom j os n k ≡ recordsFrom (sourced (j .source)) os n k
-unfolding recordsFrom
-records-sourced j os zero k = refl
-records-sourced j os (suc n) k = rw (records-sourced j os n (k + 1))
+module _ (xs : List ℕ) (m : ℕ) (notes : List ℕ) (k count maker : ℕ) (o : Outcome) (r : Recorded xs m notes k count)
+    (f : o ≡ tells (getD notes k 0)) (e : maker ≡ makerOf o k) where
+  abbrev os : List Outcome
+  os = outcomesIn m notes
 
-module _ (xs : List ℕ) (os : List Outcome) (k count maker : ℕ) (e : maker ≡ makerOf (at os k) k) where
-  pub maker-inside : Recorded xs os k count → maker < 64
-  maker-inside r = rw e (r .maker)
+  maker-is : makerOf (at os k) k ≡ maker
+  maker-is = ap (λ (z : Outcome). makerOf z k) (at-noted m k notes (r .inside) ∙ sym f) ∙ sym e
 
-  pub record-is : (r : EncodingRecord) (offset i : ℕ) (out fin : List ℕ) → r ≡ recordOf xs k → offset ≡ offsetOf os maker
-      → fin ≡ sets out i (enc 2 (r .platform) ++ (enc 2 (r .encoding) ++ enc 4 offset)) → fin ≡ sets out i (recordBytes (sourced xs) os k)
-  record-is r offset i out fin q f h = rw (← e, ← f) (rw q at h)
+  pub maker-inside : maker < m
+  maker-inside = rw (sym maker-is) (r .maker)
+
+  pub record-is : (rec : EncodingRecord) (offset i : ℕ) (out fin : List ℕ) → rec ≡ recordOf xs k → offset ≡ placeOf os maker
+      → fin ≡ sets out i (enc 2 (rec .platform) ++ (enc 2 (rec .encoding) ++ enc 4 offset)) → fin ≡ sets out i (recordBytes (placeOf os) xs os k)
+  record-is rec offset i out fin q g h = rw (maker-is, ← g) (rw q at h)
 
 pub ruleset recorded = (maker-inside, record-is)
 
 -- ---- all records
 
--- k records are passed, and those of them that are written stand before `place`
-pub record Recording (xs : List ℕ) (os : List Outcome) (out₀ out : List ℕ) (place k : ℕ) : Type 0 where
-  pub within : k ≤ 64
+-- k of m records are passed, and those of them that are written stand before `place`
+pub record Recording (xs : List ℕ) (m : ℕ) (notes out₀ out : List ℕ) (place k : ℕ) : Type 0 where
+  pub within : k ≤ m
   pub low : place ≤ 4 + 8 * k
-  pub room : place + 8 * countFrom os (64 - k) k ≤ length out
+  pub room : place + 8 * countFrom (outcomesIn m notes) (m - k) k ≤ length out
   pub same : length out ≡ length out₀
-  pub left : sets out place (recordsFrom (sourced xs) os (64 - k) k) ≡ sets out₀ 4 (recordsFrom (sourced xs) os 64 0)
+  pub left : sets out place (recordsFrom (placeOf (outcomesIn m notes)) xs (outcomesIn m notes) (m - k) k) ≡ sets out₀ 4 (recordsFrom (placeOf (outcomesIn m notes)) xs (outcomesIn m notes) m 0)
 
-pub recording-start : (xs : List ℕ) (os : List Outcome) (count : ℕ) (out : List ℕ) → Laid xs os count → 4 + 8 * count ≤ length out → Recording xs os out out 4 0
-recording-start xs os count out l h =
-    record { within = omega arith; low = omega arith; room = omega (arith, l .counts .is); same = refl; left = refl }
+pub recording-start : (xs : List ℕ) (m : ℕ) (notes : List ℕ) (count : ℕ) (out : List ℕ) → Laid xs m notes count → 4 + 8 * count ≤ length out → Recording xs m notes out out 4 0
+recording-start xs m notes count out l h =
+    let z : m - 0 ≡ m = omega arith in
+    let c = l .counts in
+    let w = ap (λ (n : ℕ). countFrom (outcomesIn m notes) n 0) (length-noted m notes (c .told .long)) in
+    record { within = omega arith; low = omega arith; room = rw z (omega (arith, h, c .is, w)); same = refl; left = rw z refl }
 
-module _ (xs : List ℕ) (os : List Outcome) (out₀ out : List ℕ) (place k : ℕ) (l : Recording xs os out₀ out place k) where
-  pub recording-end : 64 ≤ k → out ≡ sets out₀ 4 (recordsFrom (sourced xs) os 64 0)
+module _ (xs : List ℕ) (m : ℕ) (notes out₀ out : List ℕ) (place k : ℕ) (l : Recording xs m notes out₀ out place k) where
+  abbrev plan-told : List Outcome
+  plan-told = outcomesIn m notes
+
+  abbrev offset : ℕ → ℕ
+  offset = placeOf plan-told
+
+  pub recording-end : m ≤ k → out ≡ sets out₀ 4 (recordsFrom offset xs plan-told m 0)
   unfolding recordsFrom
   recording-end h =
-      let m : 64 - k ≡ 0 = omega arith in
-      rw m at (l .left)
+      let z : m - k ≡ 0 = omega arith in
+      rw z at (l .left)
 
-  module _ (t : Bool) (h : k < 64) (q : t ≡ isWritten (getD os k NotRetained)) where
-    pub recording-no : t ≡ false → Recording xs os out₀ out place (k + 1)
+  module _ (o : Outcome) (t : Bool) (h : k < m) (f : o ≡ tells (getD notes k 0)) (q : t ≡ isWritten o) where
+    asked : t ≡ isWritten (at plan-told k)
+    asked = rw (at-noted m k notes h, ← f) q
+
+    on : m - k ≡ suc (m - (k + 1))
+    on = omega arith
+
+    pub recording-no : t ≡ false → Recording xs m notes out₀ out place (k + 1)
     unfolding recordsFrom countFrom
-    recording-no e =
-        let m : 64 - k ≡ suc (64 - (k + 1)) = omega arith in
-        record {
-          within = omega arith;
-          low = omega (arith, l .low);
-          room = rw (m, ← q, e) at (l .room);
-          same = l .same;
-          left = rw (m, ← q, e) at (l .left);
-        }
+    recording-no e = record {
+      within = omega arith;
+      low = omega (arith, l .low);
+      room = rw (on, ← asked, e) at (l .room);
+      same = l .same;
+      left = rw (on, ← asked, e) at (l .left);
+    }
 
     module _ (e : t ≡ true) where
       pub recording-room : place + 8 ≤ length out
       unfolding countFrom
       recording-room =
-          let m : 64 - k ≡ suc (64 - (k + 1)) = omega arith in
-          let r = rw (m, ← q, e) at (l .room) in
+          let r = rw (on, ← asked, e) at (l .room) in
           omega (arith, r)
 
-      pub recording-asks : (count : ℕ) → Laid xs os count → Recorded xs os k count
-      recording-asks count p = record { counts = p .counts; here = p .here k (sym q ∙ e); inside = h; maker = p .makers k h }
+      pub recording-asks : (count : ℕ) → Laid xs m notes count → Recorded xs m notes k count
+      recording-asks count p = record { counts = p .counts; here = p .here k (sym asked ∙ e); inside = h; maker = p .makers k h }
 
-      pub recording-yes : (next : List ℕ) → next ≡ sets out place (recordBytes (sourced xs) os k) → Recording xs os out₀ next (place + 8) (k + 1)
+      pub recording-yes : (next : List ℕ) → next ≡ sets out place (recordBytes offset xs plan-told k) → Recording xs m notes out₀ next (place + 8) (k + 1)
       unfolding recordsFrom countFrom
       recording-yes next w =
-          let m : 64 - k ≡ suc (64 - (k + 1)) = omega arith in
-          let b = recordBytes (sourced xs) os k in
+          let b = recordBytes offset xs plan-told k in
+          let rest = recordsFrom offset xs plan-told (m - (k + 1)) (k + 1) in
           let long : length next ≡ length out = rw w (length-sets out place b) in
-          let r = rw (m, ← q, e) at (l .room) in
+          let r = rw (on, ← asked, e) at (l .room) in
           record {
             within = omega arith;
             low = omega (arith, l .low);
             room = omega (arith, r, long);
             same = long ∙ l .same;
-            left = rw w (ap (λ (i : ℕ). sets (sets out place b) (place + i) (recordsFrom (sourced xs) os (64 - (k + 1)) (k + 1))) (sym (length-record (sourced xs) os k))
-                ∙ sets-append out place b (recordsFrom (sourced xs) os (64 - (k + 1)) (k + 1)) ∙ rw (m, ← q, e) at (l .left));
+            left = rw w (ap (λ (i : ℕ). sets (sets out place b) (place + i) rest) (sym (length-record offset xs plan-told k))
+                ∙ sets-append out place b rest ∙ rw (on, ← asked, e) at (l .left));
           }
+
+-- record k has an outcome
+pub recording-told : (xs : List ℕ) (m : ℕ) (notes : List ℕ) (count k : ℕ) → Laid xs m notes count → k < m → k < length notes
+recording-told xs m notes count k p h = omega (arith, h, p .counts .told .long)
 
 pub ruleset recording = (recording-start, recording-no, recording-yes, recording-end)

@@ -1,10 +1,10 @@
 -- The table of a record by the kind of its subtable: what its writer asks for, and that it is the record's.
-use Prim.Native.Nat.{ℕ, _+_, _*_, _≤_}
+use Prim.Native.Nat.{ℕ, _+_, _*_, _≤_, _-_}
 use mathlib.Core.Path.{_≡_, refl, sym, ap, _∙_}
 use mathlib.Core.List.{List}
 use native.Mathlib.Omega.{arith}
-use lib.ListN.{length, getD}
-use lib.Seq.{sets}
+use lib.ListN.{length, getD, drop, take, length-drop}
+use lib.Seq.{sets, getD-take, getD-drop, take-all}
 use Rattle.laws.specs.Lists.{Pair}
 use Rattle.number.specs.BigEndian.{be}
 use Rattle.source.specs.declared.Kind.{Kind}
@@ -26,11 +26,12 @@ use Rattle.format14.specs.Ends.{Ends}
 use Rattle.format14.specs.Format14.{format14, rows, lengthOf}
 use Rattle.format14.proofs.WholeLaws.{length-format14}
 use Rattle.plan.specs.declared.Outcome.the-variants.{Made}
-use Rattle.plan.specs.Outcomes.{madeSize}
+use Rattle.plan.specs.Sizes.{madeSize}
 use Rattle.plan.specs.Fresh.{tableOf, by4, fresh}
 use Rattle.plan.proofs.FreshLaws.{leads4, readable14}
 use Rattle.result.proofs.MadeLaws.{not-made, made-length, table-is}
 use Rattle.result_writer.specs.TableParts.{Room, Known}
+use Rattle.plan.specs.Notes.{endsIn, frontsIn}
 
 sized4 : (ps : List Pair) (place n l : ℕ) (size : Size) → sizeOf4 ps ≡ size → by4 size ≡ Made n → place + n ≤ l → Fits4 ps place l
 sized4 ps place n l Empty q e h = not-made (Fits4 ps place l) (by4 Empty) n refl e
@@ -63,8 +64,11 @@ module _ (xs : List ℕ) (k : ℕ) (kind : Kind) (q : kind ≡ leadsTo xs k) (cs
     pub size-14 : (l : ℕ) → Room j k place size l → size ≡ lengthOf (rows (given xs at len kept map requested))
     size-14 l r = made-length j k size (r .is) ∙ ap length table-14 ∙ length-format14 (rows (given xs at len kept map requested))
 
-    pub ends-14 : (fronts ends : List ℕ) → Known j k fronts ends → Ends (slot (given xs at len kept map requested)) (2 * be 4 xs (at + 6)) ends
-    ends-14 fronts ends w = rw p (w .ended .is n len (sym q ∙ e))
+    pub ends-14 : (notes : List ℕ) → Known j k notes → Ends (slot (given xs at len kept map requested)) (2 * be 4 xs (at + 6)) (take (length notes - 128) (drop 128 notes))
+    unfolding endsIn
+    ends-14 notes w =
+        rw (take-all (length notes - 128) (drop 128 notes) (omega (arith, length-drop 128 notes)))
+        (rw p (w .ended .is n len (sym q ∙ e)))
 
     pub wrote-14 : (out next : List ℕ) → next ≡ sets out place (format14 (rows (given xs at len kept map requested))) → next ≡ sets out place (tableOf j k)
     wrote-14 out next h = rw table-14 h
@@ -72,8 +76,10 @@ module _ (xs : List ℕ) (k : ℕ) (kind : Kind) (q : kind ≡ leadsTo xs k) (cs
   pub wrote-none : (out : List ℕ) → kind ≡ Unreadable → out ≡ sets out place (tableOf j k)
   wrote-none out e = rw (table-is j k Unreadable (sym q ∙ e))
 
-pub front-of : (xs cs gs kept map requested : List ℕ) (k : ℕ) (fronts ends : List ℕ) → Known (job xs cs gs kept map requested) k fronts ends
-    → Fronts xs (length map) cs gs k (getD fronts k 0)
-front-of xs cs gs kept map requested k fronts ends w = w .fronted .each k
+pub front-of : (xs cs gs kept map requested : List ℕ) (k : ℕ) (notes : List ℕ) → Known (job xs cs gs kept map requested) k notes
+    → Fronts xs (length map) cs gs k (getD notes (64 + k) 0)
+unfolding frontsIn
+front-of xs cs gs kept map requested k notes w =
+    rw (getD-take 64 (drop 64 notes) k 0 (w .inside), getD-drop 64 notes k 0) at (w .fronted .each k)
 
 pub ruleset tables = (front-of, ends-14, leads4, readable14, fits-4, wrote-4, room-12, wrote-12, size-14, wrote-14, wrote-none)

@@ -1,5 +1,4 @@
 // Writing a result by a plan: header, records, and the tables that records make, each by the kind of its subtable.
-use plan::Outcome;
 use source::Kind;
 ghost use mathlib.Core.Path.{_≡_};
 ghost use mathlib.Core.List.{_++_};
@@ -7,14 +6,21 @@ ghost use Prim.Native.Nat.{_+_, _*_, _<_, _≤_};
 ghost use lib.ListN.{length};
 ghost use lib.Seq.{sets};
 ghost use Rattle.number.specs.BigEndian.{enc};
-ghost use Rattle.result.specs.Result.{recordBytes, recordsFrom, tablesStart, tablesBelow, resultOf, resultLength};
-ghost use Rattle.result_writer.specs.RecordParts.{sourced, Recorded, Laid};
+ghost use Rattle.source_header.specs.Header.{recordCount};
 ghost use Rattle.plan_listing.specs.Job.{job};
-ghost use Rattle.plan.specs.Fresh.{tableOf, Ready};
+ghost use Rattle.plan.specs.Fresh.{tableOf};
+ghost use Rattle.plan.specs.Making.{Ready};
+ghost use Rattle.plan.specs.Notes.{outcomesIn};
+ghost use Rattle.plan.specs.Plan.{plan};
+ghost use Rattle.result.specs.Result.{recordBytes, recordsFrom, tablesStart, tablesFrom, resultOf};
+ghost use Rattle.result.specs.Layout.{placeOf, resultLength};
+ghost use Rattle.result_writer.specs.RecordParts.{Recorded, Laid};
 ghost use Rattle.result_writer.specs.TableParts.{Room, Known};
-ghost use Rattle.result_writer.specs.Writing.{WritesPlan, Noted};
+ghost use Rattle.result_writer.specs.Writing.{WritesPlan};
 
-pub fn put_header(out: &mut [u8], count: usize)
+// ---- header and records
+
+fn put_header(out: &mut [u8], count: usize)
     requires { ⌜ 4 ≤ length (now out) ⌝ }
     requires { ⌜ count ≤ 64 ⌝ }
     ensures { λ _. ⌜ now (out .exit) ≡ sets (now (out .entry)) 0 (enc 2 0 ++ enc 2 count) ⌝ }
@@ -32,49 +38,58 @@ fn put_numbers(out: &mut [u8], place: usize, platform: u32, encoding: u32, offse
     number_writer::put_u32(out, place + 4, (offset % 4294967296) as u32);
 }
 
-// Writes record k, with the offset of the table that serves it.
+// Writes record k of m, with the offset of the table that serves it.
 fn serialize_encoding_record(
     out: &mut [u8],
     place: usize,
     s: &[u8],
-    os: [Outcome; 64],
+    m: usize,
+    notes: &[usize],
     k: usize,
     count: usize,
 )
-    requires { ⌜ Recorded (now s) os k count ⌝ }
+    requires { ⌜ Recorded (now s) m (now notes) k count ⌝ }
     requires { ⌜ place + 8 ≤ length (now out) ⌝ }
-    ensures { λ _. ⌜ now (out .exit) ≡ sets (now (out .entry)) place (recordBytes (sourced (now (s .entry))) os k) ⌝ }
+    ensures { λ _. ⌜ (let os = outcomesIn m (now (notes .entry)) in now (out .exit) ≡ sets (now (out .entry)) place (recordBytes (placeOf os) (now (s .entry)) os k)) ⌝ }
 {
     let record = source_records::encoding_record(s, k);
-    let maker = result_layout::maker_of(os[k], k);
-    let offset = result_layout::offset_of(os, maker, count);
+    let maker = plan_outcomes::maker_of(plan_outcomes::outcome_at(notes, k), k);
+    let offset = result_layout::offset_of(notes, m, maker, count);
     put_numbers(out, place, record.platform, record.encoding, offset);
 }
 
 // Writes the records behind the header.
-pub fn serialize_encoding_records(out: &mut [u8], s: &[u8], os: [Outcome; 64], count: usize)
-    requires { ⌜ Laid (now s) os count ⌝ }
+fn serialize_encoding_records(out: &mut [u8], s: &[u8], m: usize, notes: &[usize], count: usize)
+    requires { ⌜ Laid (now s) m (now notes) count ⌝ }
     requires { ⌜ 4 + 8 * count ≤ length (now out) ⌝ }
-    ensures { λ _. ⌜ now (out .exit) ≡ sets (now (out .entry)) 4 (recordsFrom (sourced (now (s .entry))) os 64 0) ⌝ }
+    ensures { λ _. ⌜ (let os = outcomesIn m (now (notes .entry)) in now (out .exit) ≡ sets (now (out .entry)) 4 (recordsFrom (placeOf os) (now (s .entry)) os m 0)) ⌝ }
 {
     let mut place: usize = 4;
     let mut k = 0;
-    while k < 64 {
+    while k < m {
         let i = k;
-        let o = os[k];
+        let o = plan_outcomes::outcome_at(notes, k);
         k += 1;
-        if result_layout::is_written(o) {
-            serialize_encoding_record(out, place, s, os, i, count);
+        if plan_outcomes::is_written(o) {
+            serialize_encoding_record(out, place, s, m, notes, i, count);
             place += 8;
         }
     }
 }
 
-// Writes the table of so many bytes that record k makes, by what planning noted of it; the flags and the two lists after them are work room.
-pub fn write_table(
+// ---- tables
+
+// A table to be written: the record that makes it, where it goes, and how many bytes it has.
+pub struct Table {
+    pub record: usize,
+    pub place: usize,
+    pub size: usize,
+}
+
+// Writes the table by what planning noted of its record; the flags and the two lists after them are work room.
+fn write_table(
     out: &mut [u8],
-    place: usize,
-    size: usize,
+    table: Table,
     s: &[u8],
     codes: &[u32],
     glyphs: &[u16],
@@ -84,17 +99,18 @@ pub fn write_table(
     flags: &mut [u8],
     tocodes: &mut [u32],
     toglyphs: &mut [u16],
-    fronts: &[usize],
-    ends: &[usize],
-    k: usize,
+    notes: &[usize],
 )
-    requires { ⌜ Ready (job (now s) (now codes) (now glyphs) (now kept) (now map) (now requested)) k (now flags) (now tocodes) (now toglyphs) ⌝ }
-    requires { ⌜ Room (job (now s) (now codes) (now glyphs) (now kept) (now map) (now requested)) k place size (length (now out)) ⌝ }
-    requires { ⌜ Known (job (now s) (now codes) (now glyphs) (now kept) (now map) (now requested)) k (now fronts) (now ends) ⌝ }
-    ensures { λ _. ⌜ now (out .exit) ≡ sets (now (out .entry)) place (tableOf (job (now (s .entry)) (now (codes .entry)) (now (glyphs .entry)) (now (kept .entry)) (now (map .entry)) (now (requested .entry))) k) ⌝ }
+    requires { ⌜ (let j = job (now s) (now codes) (now glyphs) (now kept) (now map) (now requested) in
+        Ready j (table .record) (now flags) (now tocodes) (now toglyphs) × Room j (table .record) (table .place) (table .size) (length (now out))
+        × Known j (table .record) (now notes)) ⌝ }
+    ensures { λ _. ⌜ now (out .exit) ≡ sets (now (out .entry)) (table .place) (tableOf (job (now (s .entry)) (now (codes .entry)) (now (glyphs .entry)) (now (kept .entry)) (now (map .entry)) (now (requested .entry))) (table .record)) ⌝ }
 {
+    let k = table.record;
+    let place = table.place;
+    let size = table.size;
     let n = map.len() as u32;
-    let front = fronts[k];
+    let front = notes[plan::FRONTS + k];
     match source_records::leads_to(s, k) {
         Kind::Format4 {
             language,
@@ -134,10 +150,8 @@ pub fn write_table(
         ),
         Kind::Format14 { records: _, length } => {
             let at = source_header::offset_of(s, k);
-            let subtable = format14::Subtable {
-                at: at,
-                len: length,
-            };
+            let subtable = format14::Subtable { at, len: length };
+            let ends = plan::ENDS;
             format14_writer::serialize(
                 out,
                 place,
@@ -147,7 +161,7 @@ pub fn write_table(
                 map,
                 requested,
                 flags,
-                ends,
+                &notes[ends..],
                 size,
             )
         }
@@ -167,28 +181,30 @@ fn write_tables(
     flags: &mut [u8],
     tocodes: &mut [u32],
     toglyphs: &mut [u16],
-    fronts: &[usize],
-    ends: &[usize],
-    os: [Outcome; 64],
+    notes: &[usize],
     count: usize,
 )
-    requires { ⌜ WritesPlan (job (now s) (now codes) (now glyphs) (now kept) (now map) (now requested)) os count (now flags) (now tocodes) (now toglyphs) ⌝ }
-    requires { ⌜ Noted (job (now s) (now codes) (now glyphs) (now kept) (now map) (now requested)) os (now fronts) (now ends) ⌝ }
-    requires { ⌜ resultLength os ≤ length (now out) ⌝ }
-    ensures { λ _. ⌜ now (out .exit) ≡ sets (now (out .entry)) (tablesStart os) (tablesBelow (job (now (s .entry)) (now (codes .entry)) (now (glyphs .entry)) (now (kept .entry)) (now (map .entry)) (now (requested .entry))) os 64) ⌝ }
+    requires { ⌜ WritesPlan (job (now s) (now codes) (now glyphs) (now kept) (now map) (now requested)) (now notes) count (now flags) (now tocodes) (now toglyphs) ⌝ }
+    requires { ⌜ resultLength (outcomesIn (recordCount (now s)) (now notes)) ≤ length (now out) ⌝ }
+    ensures { λ _. ⌜ (let m = recordCount (now (s .entry)) in let os = outcomesIn m (now (notes .entry)) in
+        now (out .exit) ≡ sets (now (out .entry)) (tablesStart os) (tablesFrom (job (now (s .entry)) (now (codes .entry)) (now (glyphs .entry)) (now (kept .entry)) (now (map .entry)) (now (requested .entry))) os m 0)) ⌝ }
 {
     let mut place = 4 + 8 * count;
-    let mut k = 64;
+    let mut k = source_header::record_count(s);
     while 0 < k {
         k -= 1;
-        let o = os[k];
-        let size = result_layout::size_of(o);
+        let o = plan_outcomes::outcome_at(notes, k);
+        let size = plan_outcomes::size_of(o);
         let next = place + size;
-        if plan_tests::is_made(o) {
-            write_table(
-                out,
+        if plan_outcomes::is_made(o) {
+            let table = Table {
+                record: k,
                 place,
                 size,
+            };
+            write_table(
+                out,
+                table,
                 s,
                 codes,
                 glyphs,
@@ -198,16 +214,16 @@ fn write_tables(
                 flags,
                 tocodes,
                 toglyphs,
-                fronts,
-                ends,
-                k,
+                notes,
             );
             place = next;
         }
     }
 }
 
-// Writes the whole result by a plan and what it noted; the flags and the two lists after them are work room.
+// ---- the whole
+
+// Writes the whole result by what planning noted, with so many records; the flags and the two lists after them are work room.
 pub fn serialize_cmap(
     out: &mut [u8],
     s: &[u8],
@@ -219,18 +235,16 @@ pub fn serialize_cmap(
     flags: &mut [u8],
     tocodes: &mut [u32],
     toglyphs: &mut [u16],
-    fronts: &[usize],
-    ends: &[usize],
-    os: [Outcome; 64],
+    notes: &[usize],
     count: usize,
 )
-    requires { ⌜ WritesPlan (job (now s) (now codes) (now glyphs) (now kept) (now map) (now requested)) os count (now flags) (now tocodes) (now toglyphs) ⌝ }
-    requires { ⌜ Noted (job (now s) (now codes) (now glyphs) (now kept) (now map) (now requested)) os (now fronts) (now ends) ⌝ }
-    requires { ⌜ resultLength os ≤ length (now out) ⌝ }
-    ensures { λ _. ⌜ now (out .exit) ≡ sets (now (out .entry)) 0 (resultOf (job (now (s .entry)) (now (codes .entry)) (now (glyphs .entry)) (now (kept .entry)) (now (map .entry)) (now (requested .entry))) os) ⌝ }
+    requires { ⌜ WritesPlan (job (now s) (now codes) (now glyphs) (now kept) (now map) (now requested)) (now notes) count (now flags) (now tocodes) (now toglyphs) ⌝ }
+    requires { ⌜ resultLength (outcomesIn (recordCount (now s)) (now notes)) ≤ length (now out) ⌝ }
+    ensures { λ _. ⌜ (let j = job (now (s .entry)) (now (codes .entry)) (now (glyphs .entry)) (now (kept .entry)) (now (map .entry)) (now (requested .entry)) in now (out .exit) ≡ sets (now (out .entry)) 0 (resultOf j (plan j))) ⌝ }
 {
+    let m = source_header::record_count(s);
     put_header(out, count);
-    serialize_encoding_records(out, s, os, count);
+    serialize_encoding_records(out, s, m, notes, count);
     write_tables(
         out,
         s,
@@ -242,9 +256,7 @@ pub fn serialize_cmap(
         flags,
         tocodes,
         toglyphs,
-        fronts,
-        ends,
-        os,
+        notes,
         count,
     );
 }

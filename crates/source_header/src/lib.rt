@@ -2,7 +2,7 @@
 ghost use mathlib.Core.Path.{_≡_};
 ghost use Prim.Native.Nat.{_+_, _*_, _≤_};
 ghost use lib.ListN.{length};
-ghost use Rattle.source_header.specs.Header.{headerOf, entryAt, offsetOf};
+ghost use Rattle.source_header.specs.Header.{recordCount, headerOf, entryAt, offsetOf};
 
 // How many records the header announces, or refusal 5.
 pub enum Header {
@@ -40,6 +40,13 @@ pub fn header_of(s: &[u8]) -> Header
         return Header::Refused;
     }
     Header::Records(count)
+}
+
+pub fn record_count(s: &[u8]) -> usize
+    requires { ⌜ 4 ≤ length (now s) ⌝ }
+    ensures { λ r. ⌜ r ≡ recordCount (now (s .entry)) ⌝ }
+{
+    number::u16_at(s, 2) as usize
 }
 
 // Where record k leads to.

@@ -1,5 +1,4 @@
-use Rattle.cmap_concluding.proofs.PassingLaws.{passing}
-use Rattle.cmap.proofs.FateLaws.{fates}
+use Rattle.cmap.proofs.FateLaws.{fate-early}
 use borrow.Author.Needs.{needs}
 use Rattle.cmap.proofs.fate_of.Statement.{statement}
 use Rattle.cmap.proofs.fate_of.Tie as tie
@@ -11,28 +10,14 @@ no-fate-requires : tie.Need-no-fate-requires
 no-fate-requires c κs = search needs
 
 returns : tie.Need-returns
-returns c = search fates
+returns c = search fate-early
 
-slice-aggregate-carry-out : tie.Need-slice-aggregate-carry-out
-slice-aggregate-carry-out c = search needs
-
-carry-out-requires : tie.Need-carry-out-requires
-carry-out-requires c κs = search needs
-
-fate-by-requires : tie.Need-fate-by-requires
-fate-by-requires c κs = search fates
+tell-requires : tie.Need-tell-requires
+tell-requires c κs = search needs
 
 returns-2 : tie.Need-returns-2
-returns-2 c = search (fates, passing)
+returns-2 c = search needs
 
 pub fate-of-spec : {M : Type 1} → statement M
 fate-of-spec =
-    tie.close
-    (tie.spec
-    early-refusal-requires
-    no-fate-requires
-    returns
-    slice-aggregate-carry-out
-    carry-out-requires
-    fate-by-requires
-    returns-2)
+    tie.close (tie.spec early-refusal-requires no-fate-requires returns tell-requires returns-2)

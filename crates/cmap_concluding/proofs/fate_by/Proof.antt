@@ -1,13 +1,13 @@
-use Rattle.cmap_concluding.proofs.FateLaws.{finding}
+use Rattle.cmap_concluding.proofs.FateLaws.{finding, concluding}
 use borrow.Author.Needs.{needs}
 use Rattle.cmap_concluding.proofs.fate_by.Statement.{statement}
 use Rattle.cmap_concluding.proofs.fate_by.Tie as tie
 
 record-count-requires : tie.Need-record-count-requires
-record-count-requires c κs = search needs
+record-count-requires c κs = search concluding
 
 late-refusal-requires : tie.Need-late-refusal-requires
-late-refusal-requires c κs = search needs
+late-refusal-requires c κs = (search concluding, search concluding)
 
 no-fate-requires : tie.Need-no-fate-requires
 no-fate-requires c κs = search needs
@@ -22,16 +22,10 @@ returns-2 : tie.Need-returns-2
 returns-2 c = search finding
 
 encoding-record-requires : tie.Need-encoding-record-requires
-encoding-record-requires c κs = search needs
-
-mul-kind-of : tie.Need-mul-kind-of
-mul-kind-of c = search needs
-
-array-copy-out-kind-of : tie.Need-array-copy-out-kind-of
-array-copy-out-kind-of c = search needs
+encoding-record-requires c κs = search finding
 
 kind-of-requires : tie.Need-kind-of-requires
-kind-of-requires c κs = search finding
+kind-of-requires c κs = (search finding, search needs)
 
 returns-3 : tie.Need-returns-3
 returns-3 c = search finding
@@ -47,7 +41,5 @@ fate-by-spec =
     no-fate-requires-2
     returns-2
     encoding-record-requires
-    mul-kind-of
-    array-copy-out-kind-of
     kind-of-requires
     returns-3)

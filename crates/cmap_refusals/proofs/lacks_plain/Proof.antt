@@ -1,4 +1,5 @@
 use Rattle.plan.specs.Plan.{madePlain}
+use Rattle.plan.specs.Notes.{outcomesIn}
 use Rattle.laws.proofs.SearchLaws.{Asking}
 use Prim.Native.Nat.{_-_}
 use native.Mathlib.Omega.{arith}
@@ -8,16 +9,16 @@ use Rattle.cmap_refusals.proofs.lacks_plain.Statement.{statement}
 use Rattle.cmap_refusals.proofs.lacks_plain.Tie as tie
 
 abbrev Inv-loop : tie.InvT-loop
-Inv-loop s m os k₀ k = Asking (madePlain s os) m k
+Inv-loop s m notes k₀ k = Asking (madePlain s (outcomesIn m notes)) m k
 
 abbrev μ-loop : tie.MeasureT-loop
-μ-loop s m os k₀ k = m - k
+μ-loop s m notes k₀ k = m - k
 
 loop-holds : tie.Need-loop-holds Inv-loop μ-loop
 loop-holds c = search (needs, lacking)
 
-counts-requires : tie.Need-counts-requires Inv-loop μ-loop
-counts-requires c κs = search (needs, lacking)
+made-plain-requires : tie.Need-made-plain-requires Inv-loop μ-loop
+made-plain-requires c κs = search (needs, lacking)
 
 returns : tie.Need-returns Inv-loop μ-loop
 returns c = search (needs, lacking)
@@ -41,7 +42,7 @@ lacks-plain-spec =
     Inv-loop
     μ-loop
     loop-holds
-    counts-requires
+    made-plain-requires
     returns
     add-k
     loop-less

@@ -1,20 +1,19 @@
 -- The answer by the plan tells whether the result is written, and with how many records.
-use Rattle.cmap_concluding.proofs.AnswerLaws.{outputs}
-use Rattle.cmap_rooms.proofs.CarryingLaws.{to-write}
+use Rattle.cmap_concluding.proofs.AnswerLaws.{outputs, accepted-counts, accepted-fits}
+use Rattle.cmap_rooms.proofs.CarryingLaws.{writing, writes-plan}
 use borrow.Author.Needs.{needs}
 use Rattle.cmap_rooms.proofs.write_result.Statement.{statement}
 use Rattle.cmap_rooms.proofs.write_result.Tie as tie
 
-answer-by-requires : tie.Need-answer-by-requires
-answer-by-requires c κs = search needs
-
-enum-known-records : tie.Need-enum-known-records
-enum-known-records c = search needs
+enum-known-answer : tie.Need-enum-known-answer
+enum-known-answer c = search needs
 
 serialize-cmap-requires : tie.Need-serialize-cmap-requires
 serialize-cmap-requires c κs =
-    let p = c .before .before .before .before .before .before .before .before .before .before .before .before .before .before .before .before .before .before .before .before .pre in
-    (search (to-write, outputs, p), (search needs, search (outputs, p)))
+    let w = c .before .before .before .before .before .before .before .before .before .before .before .before .before .before .before .before .before .before .pre in
+    let e = c .before .before .before .before .before .answer .given .1 in
+    let out = c .before .before .before .before .before .before .before .before .before .before .before .before .before .before .before .before .before .before .args .out .now in
+    (writes-plan _ _ _ _ _ _ (w .0) (accepted-counts _ _ (w .0 .planned) out _ (w .1) _ _ e), accepted-fits _ _ (w .0 .planned) out _ (w .1) _ _ e)
 
 enum-told : tie.Need-enum-told
 enum-told c = search needs
@@ -35,22 +34,19 @@ same-length-4 : tie.Need-same-length-4
 same-length-4 c = search needs
 
 returns : tie.Need-returns
-returns c =
-    let p = c .before .before .before .before .before .before .before .before .before .before .before .before .before .before .before .before .before .before .before .before .before .before .before .before .before .before .before .before .before .pre in
-    search (outputs, p)
+returns c = search (writing, outputs)
 
 returns-2 : tie.Need-returns-2
-returns-2 c = search outputs
+returns-2 c = search (writing, outputs)
 
 returns-3 : tie.Need-returns-3
-returns-3 c = search outputs
+returns-3 c = search (writing, outputs)
 
 pub write-result-spec : {M : Type 1} → statement M
 write-result-spec =
     tie.close
     (tie.spec
-    answer-by-requires
-    enum-known-records
+    enum-known-answer
     serialize-cmap-requires
     enum-told
     enum-told-2

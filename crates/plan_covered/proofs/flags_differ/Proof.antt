@@ -1,4 +1,4 @@
-use Rattle.plan.specs.Covered.{isOther, flagsDiffer}
+use Rattle.plan.specs.CoveredFlags.{isOther, flagsDiffer}
 use Rattle.laws.proofs.SearchLaws.{Asking, asking}
 use native.Mathlib.Omega.{arith}
 use Prim.Native.Nat.{_-_}

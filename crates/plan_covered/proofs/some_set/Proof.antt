@@ -1,4 +1,4 @@
-use Rattle.plan.specs.Covered.{isSet, someSet}
+use Rattle.plan.specs.CoveredFlags.{isSet, someSet}
 use Rattle.laws.proofs.SearchLaws.{Asking, asking}
 use native.Mathlib.Omega.{arith}
 use Prim.Native.Nat.{_-_}

@@ -1,5 +1,7 @@
 use Rattle.plan.proofs.FreshLaws.{freshly}
 use Rattle.plan.proofs.RecordNotesLaws.{turning}
+use Rattle.plan.proofs.NotesLaws.{leaving}
+use native.Mathlib.Omega.{arith}
 use borrow.Author.Needs.{needs}
 use Rattle.plan_walk.proofs.fresh.Statement.{statement}
 use Rattle.plan_walk.proofs.fresh.Tie as tie
@@ -47,7 +49,7 @@ same-length-4 : tie.Need-same-length-4
 same-length-4 c = search needs
 
 returns : tie.Need-returns
-returns c = ((search freshly, search needs), (search needs, search turning))
+returns c = ((search freshly, search needs), search leaving, search turning)
 
 same-length-5 : tie.Need-same-length-5
 same-length-5 c = search needs
@@ -62,7 +64,7 @@ same-length-8 : tie.Need-same-length-8
 same-length-8 c = search needs
 
 returns-2 : tie.Need-returns-2
-returns-2 c = ((search freshly, search needs), (search needs, search turning))
+returns-2 c = ((search freshly, search needs), search leaving, search turning)
 
 same-length-9 : tie.Need-same-length-9
 same-length-9 c = search needs
@@ -74,10 +76,10 @@ same-length-11 : tie.Need-same-length-11
 same-length-11 c = search needs
 
 returns-3 : tie.Need-returns-3
-returns-3 c = ((search freshly, search needs), (search needs, search turning))
+returns-3 c = ((search freshly, search needs), search leaving, search turning)
 
 returns-4 : tie.Need-returns-4
-returns-4 c = ((search freshly, search needs), (search needs, search turning))
+returns-4 c = ((search freshly, record { below = omega arith }), search leaving, search turning)
 
 pub fresh-spec : {M : Type 1} → statement M
 fresh-spec =

@@ -7,11 +7,14 @@ use Rattle.plan_walk.proofs.fresh12.Tie as tie
 size12-requires : tie.Need-size12-requires
 size12-requires c κs = search needs
 
-mul-fronts : tie.Need-mul-fronts
-mul-fronts c = search needs
+add-notes : tie.Need-add-notes
+add-notes c = search needs
 
-slice-write-fronts : tie.Need-slice-write-fronts
-slice-write-fronts c = search needs
+mul-notes : tie.Need-mul-notes
+mul-notes c = search needs
+
+slice-write-notes : tie.Need-slice-write-notes
+slice-write-notes c = search needs
 
 same-length : tie.Need-same-length
 same-length c = search needs
@@ -26,15 +29,16 @@ same-length-4 : tie.Need-same-length-4
 same-length-4 c = search needs
 
 returns : tie.Need-returns
-returns c = ((search sizes, search sizes), search fronting)
+returns c = ((search sizes, search sizes), (search fronting, (search fronting, search fronting)))
 
 pub fresh12-spec : {M : Type 1} → statement M
 fresh12-spec =
     tie.close
     (tie.spec
     size12-requires
-    mul-fronts
-    slice-write-fronts
+    add-notes
+    mul-notes
+    slice-write-notes
     same-length
     same-length-2
     same-length-3

@@ -7,11 +7,14 @@ use Rattle.plan_walk.proofs.fresh4.Tie as tie
 size4-requires : tie.Need-size4-requires
 size4-requires c κs = search needs
 
-mul-fronts : tie.Need-mul-fronts
-mul-fronts c = search needs
+add-notes : tie.Need-add-notes
+add-notes c = search needs
 
-slice-write-fronts : tie.Need-slice-write-fronts
-slice-write-fronts c = search needs
+mul-notes : tie.Need-mul-notes
+mul-notes c = search needs
+
+slice-write-notes : tie.Need-slice-write-notes
+slice-write-notes c = search needs
 
 of-size4-requires : tie.Need-of-size4-requires
 of-size4-requires c κs = search sizes
@@ -29,15 +32,16 @@ same-length-4 : tie.Need-same-length-4
 same-length-4 c = search needs
 
 returns : tie.Need-returns
-returns c = ((search sizes, search needs), search fronting)
+returns c = ((search sizes, search needs), (search fronting, (search fronting, search fronting)))
 
 pub fresh4-spec : {M : Type 1} → statement M
 fresh4-spec =
     tie.close
     (tie.spec
     size4-requires
-    mul-fronts
-    slice-write-fronts
+    add-notes
+    mul-notes
+    slice-write-notes
     of-size4-requires
     same-length
     same-length-2

@@ -1,22 +1,22 @@
+use Rattle.plan.proofs.TwinLaws.{twins}
 use borrow.Author.Needs.{needs}
 use Rattle.plan_walk.proofs.is_dropped.Statement.{statement}
 use Rattle.plan_walk.proofs.is_dropped.Tie as tie
-use Rattle.plan.proofs.TwinLaws.{twins}
 
 twin-requires : tie.Need-twin-requires
 twin-requires c κs = search needs
 
-mul-is-covered : tie.Need-mul-is-covered
-mul-is-covered c = search needs
-
-array-copy-out-is-covered : tie.Need-array-copy-out-is-covered
-array-copy-out-is-covered c = search needs
+outcome-at-requires : tie.Need-outcome-at-requires
+outcome-at-requires c κs = search needs
 
 is-covered-requires : tie.Need-is-covered-requires
 is-covered-requires c κs = search needs
 
 returns : tie.Need-returns
 returns c = search twins
+
+record-count-requires : tie.Need-record-count-requires
+record-count-requires c κs = search needs
 
 can-drop-format12-requires : tie.Need-can-drop-format12-requires
 can-drop-format12-requires c κs = search needs
@@ -35,10 +35,10 @@ is-dropped-spec =
     tie.close
     (tie.spec
     twin-requires
-    mul-is-covered
-    array-copy-out-is-covered
+    outcome-at-requires
     is-covered-requires
     returns
+    record-count-requires
     can-drop-format12-requires
     same-length
     same-length-2

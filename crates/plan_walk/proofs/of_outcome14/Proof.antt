@@ -1,3 +1,4 @@
+use native.Mathlib.Omega.{arith}
 use borrow.Author.Needs.{needs}
 use Rattle.plan_walk.proofs.of_outcome14.Statement.{statement}
 use Rattle.plan_walk.proofs.of_outcome14.Tie as tie
@@ -15,7 +16,7 @@ returns : tie.Need-returns
 returns c = search needs
 
 returns-2 : tie.Need-returns-2
-returns-2 c = search needs
+returns-2 c = (rw (c .enum-told2 .given .1), record { below = omega arith })
 
 returns-3 : tie.Need-returns-3
 returns-3 c =

@@ -12,23 +12,23 @@ enum-told-2 c = search needs
 enum-known-size : tie.Need-enum-known-size
 enum-known-size c = search needs
 
-mul-t4 : tie.Need-mul-t4
-mul-t4 c = omega (arith, c .before .before .before .before .pre .fits _ (c .before .before .size .given .1))
-
-add-t5 : tie.Need-add-t5
-add-t5 c = omega (arith, c .before .before .before .before .pre .fits _ (c .before .before .size .given .1))
-
 mul-t6 : tie.Need-mul-t6
-mul-t6 c = omega (arith, c .before .before .before .before .before .pre .fits _ (c .before .before .before .size .given .1))
+mul-t6 c = omega (arith, c .before .before .before .before .pre .fits _ (c .before .before .size .given .1))
 
 add-t7 : tie.Need-add-t7
-add-t7 c = omega (arith, c .before .before .before .before .before .pre .fits _ (c .before .before .before .size .given .1))
+add-t7 c = omega (arith, c .before .before .before .before .pre .fits _ (c .before .before .size .given .1))
+
+mul-t8 : tie.Need-mul-t8
+mul-t8 c = omega (arith, c .before .before .before .before .before .pre .fits _ (c .before .before .before .size .given .1))
+
+add-t9 : tie.Need-add-t9
+add-t9 c = omega (arith, c .before .before .before .before .before .pre .fits _ (c .before .before .before .size .given .1))
 
 returns : tie.Need-returns
-returns c = search needs
+returns c = (rw (c .enum-told .given .1), record { below = omega arith })
 
 returns-2 : tie.Need-returns-2
-returns-2 c = search needs
+returns-2 c = (rw (c .enum-told2 .given .1), record { below = omega arith })
 
 returns-3 : tie.Need-returns-3
 returns-3 c = (rw (c .before .before .before .size .given .1), record { below = omega (arith, c .before .before .before .before .before .pre .fits _ (c .before .before .before .size .given .1)) })
@@ -40,10 +40,10 @@ of-size4-spec =
     enum-told
     enum-told-2
     enum-known-size
-    mul-t4
-    add-t5
     mul-t6
     add-t7
+    mul-t8
+    add-t9
     returns
     returns-2
     returns-3)

@@ -1,3 +1,4 @@
+use native.Mathlib.Omega.{arith}
 use Rattle.plan.proofs.OutcomeLaws.{outcome-rules}
 use Rattle.plan.proofs.NotesLaws.{staying}
 use borrow.Author.Needs.{needs}
@@ -8,7 +9,7 @@ retain-encoding-record-for-subset-requires : tie.Need-retain-encoding-record-for
 retain-encoding-record-for-subset-requires c κs = search needs
 
 retained-outcome-requires : tie.Need-retained-outcome-requires
-retained-outcome-requires c κs = (search needs, (search needs, (search needs, (search outcome-rules, search needs))))
+retained-outcome-requires c κs = (search needs, (search needs, search outcome-rules))
 
 same-length : tie.Need-same-length
 same-length c = search needs
@@ -25,14 +26,11 @@ same-length-4 c = search needs
 same-length-5 : tie.Need-same-length-5
 same-length-5 c = search needs
 
-same-length-6 : tie.Need-same-length-6
-same-length-6 c = search needs
-
 returns : tie.Need-returns
-returns c = ((search outcome-rules, search needs), (search needs, search needs))
+returns c = ((search outcome-rules, search needs), search needs, search needs)
 
 returns-2 : tie.Need-returns-2
-returns-2 c = ((search outcome-rules, search needs), (search needs, search staying))
+returns-2 c = ((search outcome-rules, record { below = omega arith }), search staying, search staying)
 
 pub outcome-of-spec : {M : Type 1} → statement M
 outcome-of-spec =
@@ -45,6 +43,5 @@ outcome-of-spec =
     same-length-3
     same-length-4
     same-length-5
-    same-length-6
     returns
     returns-2)

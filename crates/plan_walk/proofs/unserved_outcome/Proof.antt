@@ -7,20 +7,17 @@ use Rattle.plan_walk.proofs.unserved_outcome.Tie as tie
 spent-requires : tie.Need-spent-requires
 spent-requires c κs = search needs
 
-mul-result : tie.Need-mul-result
-mul-result c = search needs
-
-array-copy-out-result : tie.Need-array-copy-out-result
-array-copy-out-result c = search needs
-
-returns : tie.Need-returns
-returns c = ((search twins, search twins), (search needs, search staying))
-
-fresh-requires : tie.Need-fresh-requires
-fresh-requires c κs = search needs
+outcome-at-requires : tie.Need-outcome-at-requires
+outcome-at-requires c κs = search needs
 
 same-length : tie.Need-same-length
 same-length c = search needs
+
+returns : tie.Need-returns
+returns c = ((search twins, search twins), search staying, search staying)
+
+fresh-requires : tie.Need-fresh-requires
+fresh-requires c κs = search needs
 
 same-length-2 : tie.Need-same-length-2
 same-length-2 c = search needs
@@ -45,11 +42,10 @@ unserved-outcome-spec =
     tie.close
     (tie.spec
     spent-requires
-    mul-result
-    array-copy-out-result
+    outcome-at-requires
+    same-length
     returns
     fresh-requires
-    same-length
     same-length-2
     same-length-3
     same-length-4

@@ -6,19 +6,16 @@ use Rattle.result_layout.proofs.count_written.Statement.{statement}
 use Rattle.result_layout.proofs.count_written.Tie as tie
 
 abbrev Inv-loop : tie.InvT-loop
-Inv-loop os n₀ k₀ n k = Counting os n k
+Inv-loop notes m n₀ k₀ n k = Counting m notes n k
 
 abbrev μ-loop : tie.MeasureT-loop
-μ-loop os n₀ k₀ n k = 64 - k
+μ-loop notes m n₀ k₀ n k = m - k
 
 loop-holds : tie.Need-loop-holds Inv-loop μ-loop
 loop-holds c = search (needs, counting)
 
-mul-o : tie.Need-mul-o Inv-loop μ-loop
-mul-o c = omega arith
-
-array-copy-out-o : tie.Need-array-copy-out-o Inv-loop μ-loop
-array-copy-out-o c = omega arith
+outcome-at-requires : tie.Need-outcome-at-requires Inv-loop μ-loop
+outcome-at-requires c κs = omega arith
 
 add-k : tie.Need-add-k Inv-loop μ-loop
 add-k c = omega arith
@@ -33,13 +30,13 @@ loop-less : tie.Need-loop-less Inv-loop μ-loop
 loop-less c = omega arith
 
 loop-again : tie.Need-loop-again Inv-loop μ-loop
-loop-again c = search (needs, counting)
+loop-again c = search counting
 
 loop-less-2 : tie.Need-loop-less-2 Inv-loop μ-loop
 loop-less-2 c = omega arith
 
 loop-again-2 : tie.Need-loop-again-2 Inv-loop μ-loop
-loop-again-2 c = search (needs, counting)
+loop-again-2 c = search counting
 
 returns : tie.Need-returns Inv-loop μ-loop
 returns c = (search counting, omega arith)
@@ -51,8 +48,7 @@ count-written-spec =
     Inv-loop
     μ-loop
     loop-holds
-    mul-o
-    array-copy-out-o
+    outcome-at-requires
     add-k
     is-written-requires
     add-n

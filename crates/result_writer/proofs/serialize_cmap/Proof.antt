@@ -4,6 +4,9 @@ use borrow.Author.Needs.{needs}
 use Rattle.result_writer.proofs.serialize_cmap.Statement.{statement}
 use Rattle.result_writer.proofs.serialize_cmap.Tie as tie
 
+record-count-requires : tie.Need-record-count-requires
+record-count-requires c κs = search needs
+
 put-header-requires : tie.Need-put-header-requires
 put-header-requires c κs = search needs
 
@@ -11,7 +14,7 @@ serialize-encoding-records-requires : tie.Need-serialize-encoding-records-requir
 serialize-encoding-records-requires c κs = (search whole, search whole)
 
 write-tables-requires : tie.Need-write-tables-requires
-write-tables-requires c κs = (search needs, (search needs, search needs))
+write-tables-requires c κs = search needs
 
 same-length : tie.Need-same-length
 same-length c = search needs
@@ -32,6 +35,7 @@ pub serialize-cmap-spec : {M : Type 1} → statement M
 serialize-cmap-spec =
     tie.close
     (tie.spec
+    record-count-requires
     put-header-requires
     serialize-encoding-records-requires
     write-tables-requires

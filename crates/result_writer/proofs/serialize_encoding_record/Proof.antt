@@ -7,17 +7,14 @@ use Rattle.result_writer.proofs.serialize_encoding_record.Tie as tie
 encoding-record-requires : tie.Need-encoding-record-requires
 encoding-record-requires c κs = search needs
 
-mul-maker-of : tie.Need-mul-maker-of
-mul-maker-of c = search needs
-
-array-copy-out-maker-of : tie.Need-array-copy-out-maker-of
-array-copy-out-maker-of c = search needs
+outcome-at-requires : tie.Need-outcome-at-requires
+outcome-at-requires c κs = search needs
 
 maker-of-requires : tie.Need-maker-of-requires
 maker-of-requires c κs = search needs
 
 offset-of-requires : tie.Need-offset-of-requires
-offset-of-requires c κs = search needs
+offset-of-requires c κs = (search needs, search recorded)
 
 put-numbers-requires : tie.Need-put-numbers-requires
 put-numbers-requires c κs = search needs
@@ -33,8 +30,7 @@ serialize-encoding-record-spec =
     tie.close
     (tie.spec
     encoding-record-requires
-    mul-maker-of
-    array-copy-out-maker-of
+    outcome-at-requires
     maker-of-requires
     offset-of-requires
     put-numbers-requires

@@ -2,24 +2,21 @@
 use Prim.Native.Nat.{_-_}
 use native.Mathlib.Omega.{arith}
 use borrow.Author.Needs.{needs}
-use Rattle.result_writer.proofs.RecordsLaws.{Recording, recording, recording-room, recording-asks}
+use Rattle.result_writer.proofs.RecordsLaws.{Recording, recording, recording-room, recording-asks, recording-told}
 use Rattle.result_writer.proofs.serialize_encoding_records.Statement.{statement}
 use Rattle.result_writer.proofs.serialize_encoding_records.Tie as tie
 
 abbrev Inv-loop : tie.InvT-loop
-Inv-loop out₀ s count os place₀ k₀ out place k = Recording s os out₀ out place k
+Inv-loop out₀ s m notes count place₀ k₀ out place k = Recording s m notes out₀ out place k
 
 abbrev μ-loop : tie.MeasureT-loop
-μ-loop out₀ s count os place₀ k₀ out place k = 64 - k
+μ-loop out₀ s m notes count place₀ k₀ out place k = m - k
 
 loop-holds : tie.Need-loop-holds Inv-loop μ-loop
 loop-holds c = search recording
 
-mul-o : tie.Need-mul-o Inv-loop μ-loop
-mul-o c = omega arith
-
-array-copy-out-o : tie.Need-array-copy-out-o Inv-loop μ-loop
-array-copy-out-o c = omega arith
+outcome-at-requires : tie.Need-outcome-at-requires Inv-loop μ-loop
+outcome-at-requires c κs = search recording-told
 
 add-k : tie.Need-add-k Inv-loop μ-loop
 add-k c = omega arith
@@ -58,8 +55,7 @@ serialize-encoding-records-spec =
     Inv-loop
     μ-loop
     loop-holds
-    mul-o
-    array-copy-out-o
+    outcome-at-requires
     add-k
     is-written-requires
     serialize-encoding-record-requires

@@ -1,11 +1,15 @@
 -- Each kind's writer writes the table that is the record's by that kind.
-use Rattle.result_writer.proofs.TableLaws.{tables}
+use Rattle.result_writer.proofs.TableLaws.{tables, size-14, ends-14}
+use Rattle.plan.proofs.FreshLaws.{readable14}
 use borrow.Author.Needs.{needs}
 use Rattle.result_writer.proofs.write_table.Statement.{statement}
 use Rattle.result_writer.proofs.write_table.Tie as tie
 
 cast-n : tie.Need-cast-n
 cast-n c = search needs
+
+add-front : tie.Need-add-front
+add-front c = search needs
 
 mul-front : tie.Need-mul-front
 mul-front c = search needs
@@ -34,8 +38,22 @@ enum-known-length c = search needs
 offset-of-requires : tie.Need-offset-of-requires
 offset-of-requires c κs = search needs
 
+mul-serialize : tie.Need-mul-serialize
+mul-serialize c = search needs
+
+sub-serialize : tie.Need-sub-serialize
+sub-serialize c = search needs
+
+part-serialize-start : tie.Need-part-serialize-start
+part-serialize-start c = search needs
+
+part-serialize-end : tie.Need-part-serialize-end
+part-serialize-end c = search needs
+
 serialize-requires : tie.Need-serialize-requires
-serialize-requires c κs = (search tables, (search needs, ((search tables, search tables), search needs)))
+serialize-requires c κs =
+    let p = c .before .before .before .before .before .before .before .before .before .before .before .before .before .before .before .before .before .before .before .before .pre in
+    (search (readable14, p .0), (search needs, ((search (ends-14, p .2), search (size-14, p .1)), search needs)))
 
 enum-told : tie.Need-enum-told
 enum-told c = search needs
@@ -87,6 +105,7 @@ write-table-spec =
     tie.close
     (tie.spec
     cast-n
+    add-front
     mul-front
     shared-slice-read-front
     leads-to-requires
@@ -96,6 +115,10 @@ write-table-spec =
     write12-requires
     enum-known-length
     offset-of-requires
+    mul-serialize
+    sub-serialize
+    part-serialize-start
+    part-serialize-end
     serialize-requires
     enum-told
     same-length

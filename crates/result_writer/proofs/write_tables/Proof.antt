@@ -1,17 +1,19 @@
 -- What is left of the tables, written from here, gives them all.
-use Rattle.result_writer.proofs.TablesLaws.{Tabling, tabling, tabling-ready, tabling-room, tabling-low, tabling-known}
-use Rattle.plan_listing.specs.Job.{job}
+use Prim.Native.Nat.{_+_, _*_, _≤_}
 use native.Mathlib.Omega.{arith}
 use borrow.Author.Needs.{needs}
+use Rattle.plan_listing.specs.Job.{job}
+use Rattle.result_writer.proofs.TablesLaws.{Tabling, tabling, tabling-low, tabling-ready, tabling-room, tabling-known}
+use Rattle.result_writer.proofs.WholeLaws.{whole}
 use Rattle.result_writer.proofs.write_tables.Statement.{statement}
 use Rattle.result_writer.proofs.write_tables.Tie as tie
 
 abbrev Inv-loop : tie.InvT-loop
-Inv-loop out₀ s codes glyphs kept map requested flags₀ tocodes₀ toglyphs₀ fronts ends count os place₀ k₀ out flags tocodes toglyphs place k =
-    Tabling (job s codes glyphs kept map requested) os count out₀ flags₀ tocodes₀ toglyphs₀ out flags tocodes toglyphs place k
+Inv-loop out₀ s codes glyphs kept map requested flags₀ tocodes₀ toglyphs₀ notes count place₀ k₀ out flags tocodes toglyphs place k =
+    Tabling (job s codes glyphs kept map requested) notes count out₀ flags₀ tocodes₀ toglyphs₀ out flags tocodes toglyphs place k
 
 abbrev μ-loop : tie.MeasureT-loop
-μ-loop out₀ s codes glyphs kept map requested flags₀ tocodes₀ toglyphs₀ fronts ends count os place₀ k₀ out flags tocodes toglyphs place k =
+μ-loop out₀ s codes glyphs kept map requested flags₀ tocodes₀ toglyphs₀ notes count place₀ k₀ out flags tocodes toglyphs place k =
     k
 
 mul-place : tie.Need-mul-place Inv-loop μ-loop
@@ -20,23 +22,25 @@ mul-place c = search needs
 add-place : tie.Need-add-place Inv-loop μ-loop
 add-place c = search needs
 
+record-count-requires : tie.Need-record-count-requires Inv-loop μ-loop
+record-count-requires c κs = search whole
+
 loop-holds : tie.Need-loop-holds Inv-loop μ-loop
 loop-holds c = search tabling
 
 sub-k : tie.Need-sub-k Inv-loop μ-loop
 sub-k c = omega arith
 
-mul-o : tie.Need-mul-o Inv-loop μ-loop
-mul-o c = omega arith
-
-array-copy-out-o : tie.Need-array-copy-out-o Inv-loop μ-loop
-array-copy-out-o c = omega arith
+outcome-at-requires : tie.Need-outcome-at-requires Inv-loop μ-loop
+outcome-at-requires c κs = search tabling
 
 size-of-requires : tie.Need-size-of-requires Inv-loop μ-loop
 size-of-requires c κs = search needs
 
 add-next : tie.Need-add-next Inv-loop μ-loop
-add-next c = omega (arith, tabling-low (c .before .before .before .loop .inv) (c .before .before .loop-test .taken) (c .size-of .ensures))
+add-next c =
+    let r : c .before .before .before .loop .place + c .size-of .result ≤ 516 + 64 * 4294967296 = search tabling-low in
+    omega (arith, r)
 
 is-made-requires : tie.Need-is-made-requires Inv-loop μ-loop
 is-made-requires c κs = search needs
@@ -44,7 +48,7 @@ is-made-requires c κs = search needs
 write-table-requires : tie.Need-write-table-requires Inv-loop μ-loop
 write-table-requires c κs =
     let l = c .before .before .before .before .before .before .before .before .before .loop .inv in
-    (search (tabling-ready, l), (search (tabling-room, l), search (tabling-known, l)))
+    (search (tabling-ready, l), search (tabling-room, l), search (tabling-known, l))
 
 loop-less : tie.Need-loop-less Inv-loop μ-loop
 loop-less c = omega arith
@@ -81,10 +85,10 @@ write-tables-spec =
     μ-loop
     mul-place
     add-place
+    record-count-requires
     loop-holds
     sub-k
-    mul-o
-    array-copy-out-o
+    outcome-at-requires
     size-of-requires
     add-next
     is-made-requires
