@@ -1,6 +1,6 @@
 #!/usr/bin/env python3
 """Writes the border jobs and their answers: border_vectors.py DIR.
-Each answer is written out here from docs/01-rules.md, not computed by a subsetter."""
+Each answer is written out here from docs/RULES.md, not computed by a subsetter."""
 import pathlib
 import struct
 import sys

@@ -1,20 +1,26 @@
 #!/usr/bin/env python3
-"""docs/EDITS.md anew: each must-fail edit, the wrong answer that it tries, and the fact at which it is refused. It reads what
-rt ci or rt must-fail left under target/must-fail/. Run it at the repository's root:
+"""Writes docs/generated/EDITS.md: each must-fail edit, the wrong answer that it tries, and the facts at which it is refused. It reads
+what .ci/run or rt must-fail left under target/must-fail/. Run it at the repository's root:
 
-    python3 tools/edits.py > docs/EDITS.md"""
+    python3 tools/edits.py      # or with - to print the page"""
 import glob
 import os
 import re
 
+import generated
+
 HEAD = """# Edits that must fail
 
-`python3 tools/edits.py > docs/EDITS.md` prints this page anew after `.ci/run`, from what the prover said of each edit. "Refused at" is the first fact that no longer holds: the function (or the file of laws) and the need or law in it. Of `calls/core_on_glyphs` the first is a law whose proof goes by the changed definition; the one that no longer holds is `job-in-room` (`RoomLaws`), refused beside it.
+`python3 tools/edits.py` writes this page whole, from what the prover said of each edit when `.ci/run` tried it.
+An edit makes one place of a crate wrong, in its code or in a definition, and the check must refuse it.
+"Refused at" has the facts that no longer hold: the function, or the file of laws, and the first need or law in it.
+A fact that only cites one of them is left out.
 
 | edit | what it says, and the edit breaks | changed | refused at |
-|---|---|---|---|"""
+|---|---|---|---|
+"""
 
-ERROR = re.compile(r"^\S*/must-fail/\w+/\w+/(proofs|specs)/(\S+?)\.antt:\d+:\d+: error: `([^`]+)`", re.M)
+ERROR = re.compile(r"^\S*/must-fail/\w+/\w+/(?:proofs|specs)/(\S+?)\.antt:\d+:\d+: error: `([^`]+)`(.*)", re.M)
 NOTE = re.compile(r"^note: (\S*/must-fail/\w+/\w+/src/\S+?):(\d+):\d+: it is not proved [^\n]*\(`([^`]+)`\)", re.M)
 
 
@@ -35,26 +41,28 @@ def function_at(path, line):
 
 
 def refused_at(log):
+    """The first fact of each function or file that is refused by itself; one that cites a refused fact is not admitted, and no more is said of it."""
     if not os.path.exists(log):
         return "not run"
     with open(log, encoding="utf-8") as f:
         text = f.read()
-    note, found = NOTE.search(text), ERROR.search(text)
-    if note:
-        return f"`{function_at(note.group(1), int(note.group(2)))}`, whose proof is the prover's own: `{note.group(3)}`"
-    if not found:
-        return "see its log"
-    path, name = found.group(2), found.group(3)
-    place = path[:-len("/Proof")].replace("/", "::") if path.endswith("/Proof") else path
-    return f"`{place}`: `{name}`"
+    facts = {}
+    for path, line, need in NOTE.findall(text):
+        facts.setdefault(f"`{function_at(path, int(line))}`, whose proof is the prover's own", need)
+    for path, name, said in ERROR.findall(text):
+        if "was not admitted" not in said:
+            place = path[:-len("/Proof")].replace("/", "::") if path.endswith("/Proof") else path
+            facts.setdefault(f"`{place}`", name)
+    return "; ".join(f"{place}: `{name}`" for place, name in facts.items()) or "see its log"
 
 
 def main():
-    print(HEAD)
+    rows = []
     for edit in sorted(glob.glob("crates/*/must-fail/*.edit")):
         crate, name = edit.split("/")[1], os.path.basename(edit)[:-5]
         says, files = told(edit)
-        print(f"| `{crate}/{name}` | {says} | {files} | {refused_at(f'target/must-fail/{crate}/{name}/.log')} |")
+        rows.append(f"| `{crate}/{name}` | {says} | {files} | {refused_at(f'target/must-fail/{crate}/{name}/.log')} |\n")
+    generated.write("EDITS", HEAD + "".join(rows))
 
 
 if __name__ == "__main__":

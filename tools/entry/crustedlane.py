@@ -1,7 +1,7 @@
 """The two entries of the crate crustedlane, as entry.py takes them."""
 
 # name, kind (shr, mut, num), element type, and the list's or number's name in the proof
-SHARED = [('source', 'shr', 'u8', 'src'), ('pairs', 'shr', 'Pair', 'ps'), ('codes', 'mut', 'u32', 'cs'), ('glyphs', 'mut', 'u16', 'gs'),
+SHARED = [('source', 'shr', 'u8', 'src'), ('pairs', 'shr', 'PairRecord', 'ps'), ('codes', 'mut', 'u32', 'cs'), ('glyphs', 'mut', 'u16', 'gs'),
           ('kept', 'shr', 'u32', 'kept'), ('map', 'shr', 'u16', 'map'), ('requested', 'shr', 'u16', 'req')]
 SIZES = ['source', 'pairs', 'codes', 'glyphs', 'kept', 'map', 'requested']
 CORE = ['source', 'codes', 'glyphs', 'n', 'kept', 'map', 'requested']

@@ -7,7 +7,7 @@ from ctx import Ctx
 
 HERE = os.path.dirname(os.path.abspath(__file__))
 CRATE = 'crustedlane'
-MIR = {'u8': 'tyInt w8', 'u16': 'tyInt w16', 'u32': 'tyInt w32', 'Pair': 'pointee (T.the-row .written)'}
+MIR = {'u8': 'tyInt w8', 'u16': 'tyInt w16', 'u32': 'tyInt w32', 'PairRecord': 'pointee (T.the-row .written)'}
 
 
 def sub(i):
@@ -40,9 +40,9 @@ class Param:
     def __init__(self, i, name, kind, elt, value):
         self.i, self.name, self.kind, self.value, self.K = i, name, kind, value, sub(i)
         self.num, self.mut = kind == 'num', kind == 'mut'
-        self.elt = 'T.the-row' if elt == 'Pair' else elt
+        self.elt = 'T.the-row' if elt == 'PairRecord' else elt
         self.mir = None if self.num else MIR[elt]
-        self.list = 'ℕ' if self.num else 'List Pair' if elt == 'Pair' else 'List ℕ'
+        self.list = 'ℕ' if self.num else 'List PairRecord' if elt == 'PairRecord' else 'List ℕ'
         self.length = 'length ' + value
         self.fits = 'room%s%s' % (self.K, '' if self.num else ' .0')
         self.typed = '(tt, record { fits = %s })' % self.fits if self.num else '(tt, (tt, (record { fits = %s }, tt)))' % self.fits

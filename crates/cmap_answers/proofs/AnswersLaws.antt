@@ -18,7 +18,7 @@ use Rattle.source_records.specs.Records.{leadsTo, leadsToFormat}
 use Rattle.plan_listing.specs.Job.{Job}
 use Rattle.heads_lookup.specs.declared.Found.{Found}
 use Rattle.heads_lookup.specs.Lookup.{lookup4, lookup12, glyphOf}
-use Rattle.heads.specs.declared.Answer.the-variants.{Glyph, Refused}
+use Rattle.heads.specs.declared.Printed.the-variants.{Glyph, Refused}
 use Rattle.heads.specs.Heads.{oldHead, newHead}
 use Rattle.heads.proofs.HeadsLaws.{old-first, old-none, new-first, new-as-old}
 use Rattle.plan.specs.declared.Outcome.{Outcome}
@@ -26,13 +26,13 @@ use Rattle.plan.specs.declared.Why.the-variants.{NotRetained, Skipped, Empty, T
 use Rattle.plan.specs.declared.Outcome.the-variants.{LeftOut, BadMapping, Served, Made}
 use Rattle.plan.specs.Outcomes.{isMade}
 use Rattle.plan.specs.Fresh.{listedOf, tableOf}
-use Rattle.result.specs.Result.{countFrom, written, resultOf}
+use Rattle.result.specs.Result.{countFrom, writtenCount, resultOf}
 use Rattle.plan.specs.Outcomes.{isWritten, makerOf, at}
-use Rattle.result.specs.Result.{offsetOf as offsetIn}
+use Rattle.result.specs.Result.{newOffset}
 use Rattle.result.proofs.CountLaws.{count-one, count-find}
 use Rattle.result.proofs.PlacesLaws.{Sound, made-written, table-stands, accepted-result, maker-of, entry-written}
 use Rattle.result.specs.Result.{makes}
-use Rattle.cmap_answers.specs.Answers.{answerBy, oldAnswer, newAnswer}
+use Rattle.cmap_answers.specs.Answers.{printedBy, oldAnswer, newAnswer}
 
 -- a table that a record made, wherever it stands, has the record's format, and a lookup of that format gives the listed glyphs
 pub record Reads (format : ℕ) (look : List ℕ → ℕ → ℕ → Found) (j : Job) (os : List Outcome) : Type 0 where
@@ -56,7 +56,7 @@ module _ (j : Job) (os : List Outcome) (s : Sound j os) where
         let e = entry-written j os s k w in
         let st = table-stands j os s (makerOf (at os k) k) (m .maker) in
         ap (λ (f : ℕ). eqb f format)
-        (ap (λ (p : ℕ). formatOf (kindAt (resultOf j os) p)) (e .offset) ∙ t .alike (makerOf (at os k) k) (resultOf j os) (offsetIn j os (makerOf (at os k) k)) (m .maker) st ∙ m .alike)
+        (ap (λ (p : ℕ). formatOf (kindAt (resultOf j os) p)) (e .offset) ∙ t .alike (makerOf (at os k) k) (resultOf j os) (newOffset j os (makerOf (at os k) k)) (m .maker) st ∙ m .alike)
 
     -- no record of the result before one that made a table of the format leads to the format
     leads-not : (n : ℕ) → n ≤ (length os) → n ≤ first (makes j os format) (length os) 0 → (i : ℕ) → i < countFrom os n 0 → leadsToFormat format (resultOf j os) i ≡ false
@@ -74,7 +74,7 @@ module _ (j : Job) (os : List Outcome) (s : Sound j os) where
 
     -- the record of the result that the first maker became
     pub record Leader (r i : ℕ) : Type 0 where
-      pub inside : i < written os
+      pub inside : i < writtenCount os
       pub leads : leadsToFormat format (resultOf j os) i ≡ true
       pub none : (k : ℕ) → k < i → leadsToFormat format (resultOf j os) k ≡ false
       pub gives : (c : ℕ) → glyphOf (look (resultOf j os) (offsetOf (resultOf j os) i) c) ≡ listedGlyph (listedOf j r) c
@@ -86,38 +86,38 @@ module _ (j : Job) (os : List Outcome) (s : Sound j os) where
         let f = both-right (isMade (at os r)) (leadsToFormat format (j .source) r) e in
         let w = made-written (at os r) m in
         let z = zero-add r in
-        let o = entry-written j os s r w .offset ∙ ap (offsetIn j os) (maker-self (at os r) r m) in
+        let o = entry-written j os s r w .offset ∙ ap (newOffset j os) (maker-self (at os r) r m) in
         record {
           inside = count-one os (length os) 0 r h (rw z w);
           leads = leads-alike r w ∙ f;
           none = leads-not r (omega arith) (omega arith);
-          gives = λ c. rw o (t .gives r (resultOf j os) (offsetIn j os r) m (table-stands j os s r m) f c);
+          gives = λ c. rw o (t .gives r (resultOf j os) (newOffset j os r) m (table-stands j os s r m) f c);
         }
 
-    pub leaderless : (length os) ≤ first (makes j os format) (length os) 0 → (i : ℕ) → i < written os → leadsToFormat format (resultOf j os) i ≡ false
+    pub leaderless : (length os) ≤ first (makes j os format) (length os) 0 → (i : ℕ) → i < writtenCount os → leadsToFormat format (resultOf j os) i ≡ false
     leaderless h = leads-not (length os) (omega arith) h
 
   -- ---- the heads
 
   module _ (t4 : Reads 4 lookup4 j os) where
     pub old-answer : (c : ℕ) → oldHead (resultOf j os) c ≡ oldAnswer j os c
-    unfolding answerBy
+    unfolding printedBy
     old-answer c =
         let r = first (makes j os 4) (length os) 0 in
         by-leb (oldHead (resultOf j os) c ≡ oldAnswer j os c) (length os) r
-        (λ h. else-lt r (length os) (Glyph (listedGlyph (listedOf j r) c)) (Refused 11) h (old-none (resultOf j os) (written os) (accepted-result j os s) c (leaderless 4 lookup4 t4 h)))
+        (λ h. else-lt r (length os) (Glyph (listedGlyph (listedOf j r) c)) (Refused 11) h (old-none (resultOf j os) (writtenCount os) (accepted-result j os s) c (leaderless 4 lookup4 t4 h)))
         (λ h.
         let d = leader 4 lookup4 t4 r refl h in
         if-lt r (length os) (Glyph (listedGlyph (listedOf j r) c)) (Refused 11) h
-        (old-first (resultOf j os) (written os) (accepted-result j os s) c (countFrom os r 0) (d .inside) (d .leads) (d .none) ∙ ap Glyph (d .gives c)))
+        (old-first (resultOf j os) (writtenCount os) (accepted-result j os s) c (countFrom os r 0) (d .inside) (d .leads) (d .none) ∙ ap Glyph (d .gives c)))
 
     pub new-answer : (t12 : Reads 12 lookup12 j os) (c : ℕ) → newHead (resultOf j os) c ≡ newAnswer j os c
-    unfolding answerBy
+    unfolding printedBy
     new-answer t12 c =
         let r = first (makes j os 12) (length os) 0 in
         by-leb (newHead (resultOf j os) c ≡ newAnswer j os c) (length os) r
-        (λ h. else-lt r (length os) (Glyph (listedGlyph (listedOf j r) c)) (oldAnswer j os c) h (new-as-old (resultOf j os) (written os) (accepted-result j os s) c (leaderless 12 lookup12 t12 h) ∙ old-answer c))
+        (λ h. else-lt r (length os) (Glyph (listedGlyph (listedOf j r) c)) (oldAnswer j os c) h (new-as-old (resultOf j os) (writtenCount os) (accepted-result j os s) c (leaderless 12 lookup12 t12 h) ∙ old-answer c))
         (λ h.
         let d = leader 12 lookup12 t12 r refl h in
         if-lt r (length os) (Glyph (listedGlyph (listedOf j r) c)) (oldAnswer j os c) h
-        (new-first (resultOf j os) (written os) (accepted-result j os s) c (countFrom os r 0) (d .inside) (d .leads) (d .none) ∙ ap Glyph (d .gives c)))
+        (new-first (resultOf j os) (writtenCount os) (accepted-result j os s) c (countFrom os r 0) (d .inside) (d .leads) (d .none) ∙ ap Glyph (d .gives c)))

@@ -13,7 +13,7 @@ use Rattle.plan_listing.specs.Job.{Job}
 use Rattle.heads.specs.Heads.{oldHead, newHead}
 use Rattle.plan.specs.Outcomes.{isMade}
 use Rattle.plan.specs.Plan.{plan}
-use Rattle.result.specs.Result.{makes, offsetOf}
+use Rattle.result.specs.Result.{makes, newOffset}
 use Rattle.plan.specs.Outcomes.{at}
 use Rattle.result.proofs.PlacesLaws.{made-written}
 use Rattle.cmap_promise.specs.declared.Answer.the-variants.{Written}
@@ -39,10 +39,10 @@ module _ (j : Job) (bytes : Bytes (j .source)) (out : List ℕ) (n records : ℕ
     call-new = ap (λ (t : List ℕ). newHead t c) (written-front j out n records w) ∙ new-gives j bytes (written-passed j out n records w) c
 
   -- the record that decides is one that the fates call written, at the offset of its own table
-  pub decider-fate : (format r : ℕ) → first (makes j (plan j) format) (length (plan j)) 0 ≡ r → r < length (plan j) → fateOf j r .kind ≡ WrittenAt (offsetOf j (plan j) r)
+  pub decider-fate : (format r : ℕ) → first (makes j (plan j) format) (length (plan j)) 0 ≡ r → r < length (plan j) → fateOf j r .kind ≡ WrittenAt (newOffset j (plan j) r)
   decider-fate format r e h =
       let os = plan j in
       let m = rw e at (first-holds (makes j os format) (length os) 0 (omega (arith, e, h))) in
       let made = both-left (isMade (at os r)) (leadsToFormat format (j .source) r) m in
       written-fate j bytes (written-passed j out n records w) r (made-written (at os r) made)
-      ∙ ap (λ (k : ℕ). WrittenAt (offsetOf j os k)) (maker-self (at os r) r made)
+      ∙ ap (λ (k : ℕ). WrittenAt (newOffset j os k)) (maker-self (at os r) r made)

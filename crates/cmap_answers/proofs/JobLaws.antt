@@ -22,9 +22,9 @@ use Rattle.source_header.proofs.HeaderLaws.{Accepted, accepted-of}
 use Rattle.source_records.specs.Records.{leadsTo, leadsToFormat}
 use Rattle.plan_listing.specs.Job.{Job, glyphCount}
 use Rattle.plan_listing.specs.Listing.{maps}
-use Rattle.heads.specs.declared.Answer.{Answer}
-use Rattle.heads.specs.declared.Answer.the-variants.{Glyph, Refused}
-use Rattle.heads.specs.Heads.{oldHead, newHead, numberOf, printedOf}
+use Rattle.heads.specs.declared.Printed.{Printed}
+use Rattle.heads.specs.declared.Printed.the-variants.{Glyph, Refused}
+use Rattle.heads.specs.Heads.{oldHead, newHead, headNumberOf, printedOf}
 use Rattle.plan.proofs.OutcomesLaws.{length-plan}
 use Rattle.plan.specs.declared.Outcome.{Outcome}
 use Rattle.plan.specs.Outcomes.{isMade}
@@ -34,14 +34,14 @@ use Rattle.result.specs.Lent.{Lent}
 use Rattle.result.proofs.LentLaws.{lent}
 use Rattle.result.proofs.ListedLaws.{listed-glyph}
 use Rattle.result.specs.Refusal.{refusalOf}
-use Rattle.result.specs.Result.{resultOf, written}
+use Rattle.result.specs.Result.{resultOf, writtenCount}
 use Rattle.result.specs.Layout.{resultLength}
 use Rattle.plan.specs.Outcomes.{isWritten, makerOf, at}
 use Rattle.result.proofs.PlacesLaws.{Sound, maker-of, accepted-result}
 use Rattle.result.proofs.LengthLaws.{length-result}
 use Rattle.result.proofs.RefusalLaws.{passed}
 use Rattle.result.specs.Result.{makes}
-use Rattle.cmap_answers.specs.Answers.{answerBy, oldAnswer, newAnswer}
+use Rattle.cmap_answers.specs.Answers.{printedBy, oldAnswer, newAnswer}
 use Rattle.cmap_answers.proofs.AnswersLaws.{old-answer, new-answer}
 use Rattle.result.proofs.SoundLaws.{plan-sound, first-maker}
 use Rattle.cmap_answers.proofs.ReadsLaws.{plan-reads4, plan-reads12}
@@ -49,7 +49,7 @@ use Rattle.cmap_answers.proofs.ReadsLaws.{plan-reads4, plan-reads12}
 -- ---- what an answer may print
 
 -- nothing, or the glyph that the job lists for c
-pub record Prints (j : Job) (c : ℕ) (r : Answer) : Type 0 where
+pub record Prints (j : Job) (c : ℕ) (r : Printed) : Type 0 where
   pub glyph : (printedOf r ≡ 0) ⊎ (printedOf r ≡ listedGlyph (pairs (j .codes) (j .glyphs)) c)
 
 listed-prints : (j : Job) (c r : ℕ) → Prints j c (Glyph (listedGlyph (listedOf j r) c))
@@ -59,8 +59,8 @@ listed-prints j c r =
     (λ e. record { glyph = inr refl })
     (λ e. record { glyph = inl refl }))
 
-answer-prints : (format : ℕ) (j : Job) (os : List Outcome) (c : ℕ) (other : Answer) → Prints j c other → Prints j c (answerBy format j os c other)
-unfolding answerBy ifLt
+answer-prints : (format : ℕ) (j : Job) (os : List Outcome) (c : ℕ) (other : Printed) → Prints j c other → Prints j c (printedBy format j os c other)
+unfolding printedBy ifLt
 answer-prints format j os c other p =
     let r = first (makes j os format) (length os) 0 in
     by-pick (Prints j c) (ltb r (length os)) (Glyph (listedGlyph (listedOf j r) c)) other (λ e. listed-prints j c r) (λ e. p)
@@ -85,19 +85,19 @@ module _ (j : Job) (os : List Outcome) (few : recordCount (j .source) ≤ length
       (first-before (makes j os 12) (length os) k (omega arith) (omega arith))) in
       false-true (sym f ∙ e)
 
-  pub new-found : (c : ℕ) → numberOf (newAnswer j os c) ≡ 0
-  unfolding answerBy
+  pub new-found : (c : ℕ) → headNumberOf (newAnswer j os c) ≡ 0
+  unfolding printedBy
   new-found c =
       let r = first (makes j os 12) (length os) 0 in
       let q = first (makes j os 4) (length os) 0 in
-      by-leb (numberOf (newAnswer j os c) ≡ 0) (length os) r
+      by-leb (headNumberOf (newAnswer j os c) ≡ 0) (length os) r
       (λ a.
-      by-leb (numberOf (newAnswer j os c) ≡ 0) (length os) q
+      by-leb (headNumberOf (newAnswer j os c) ≡ 0) (length os) q
       (λ b. absurd (not-lost b a))
       (λ b.
-      ap numberOf
+      ap headNumberOf
       (sym (else-lt r (length os) (Glyph (listedGlyph (listedOf j r) c)) (oldAnswer j os c) a (if-lt q (length os) (Glyph (listedGlyph (listedOf j q) c)) (Refused 11) b refl)))))
-      (λ a. ap numberOf (sym (if-lt r (length os) (Glyph (listedGlyph (listedOf j r) c)) (oldAnswer j os c) a refl)))
+      (λ a. ap headNumberOf (sym (if-lt r (length os) (Glyph (listedGlyph (listedOf j r) c)) (oldAnswer j os c) a refl)))
 
 -- ---- the theorem
 
@@ -112,7 +112,7 @@ module _ (j : Job) (bytes : Bytes (j .source)) (accepted : refusalOf j ≡ 0) wh
   job-sound = plan-sound j limits records-few
 
   -- the result is accepted in its turn, and as long as the plan says
-  pub job-result : Accepted (resultOf j (plan j)) (written (plan j))
+  pub job-result : Accepted (resultOf j (plan j)) (writtenCount (plan j))
   job-result = accepted-result j (plan j) job-sound
 
   pub job-length : length (resultOf j (plan j)) ≡ resultLength (plan j)
@@ -132,8 +132,8 @@ module _ (j : Job) (bytes : Bytes (j .source)) (accepted : refusalOf j ≡ 0) wh
     new-gives = new-answer j (plan j) job-sound (plan-reads4 j limits records-few) (plan-reads12 j limits records-few) c
 
     -- the new head always answers
-    pub new-answers : numberOf (newHead (resultOf j (plan j)) c) ≡ 0
-    new-answers = ap numberOf new-gives ∙ new-found j (plan j) (omega (arith, length-plan j)) (passed j accepted .some) c
+    pub new-answers : headNumberOf (newHead (resultOf j (plan j)) c) ≡ 0
+    new-answers = ap headNumberOf new-gives ∙ new-found j (plan j) (omega (arith, length-plan j)) (passed j accepted .some) c
 
     pub old-prints : Prints j c (oldHead (resultOf j (plan j)) c)
     old-prints = rw old-gives (old-may j (plan j) c)

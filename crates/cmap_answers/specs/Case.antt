@@ -1,4 +1,4 @@
--- The whole output of docs/01-rules.md, "Cases": one job and the bytes that it makes.
+-- Inner: the whole output of docs/RULES.md, "Cases", one job and the bytes that it makes; a law computes it, and no promise names it.
 use Prim.Native.Nat.{ℕ}
 use mathlib.Core.List.{List, [], _∷_}
 use Rattle.plan_listing.specs.Job.{Job}
@@ -15,8 +15,8 @@ abbrev pub bytes : List ℕ
 bytes = 0x00 ∷ 0x00 ∷ 0x00 ∷ 0x01 ∷ 0x00 ∷ 0x03 ∷ 0x00 ∷ 0x01 ∷ 0x00 ∷ 0x00 ∷ 0x00 ∷ 0x0C ∷ c1
 
 -- the pair 0x41 to 1, kept 0x41, a map of two glyphs, none requested
-abbrev pub job : Job
-job = record {
+abbrev pub caseJob : Job
+caseJob = record {
   source = bytes;
   codes = 0x41 ∷ [];
   glyphs = 1 ∷ [];

@@ -18,7 +18,7 @@ use Rattle.plan.specs.Plan.{plan}
 use Rattle.result.proofs.MadeLaws.{made-length}
 use Rattle.plan.specs.Fresh.{tableOf}
 use Rattle.result.proofs.PlanLaws.{plan-made}
-use Rattle.result.specs.Result.{written, resultOf}
+use Rattle.result.specs.Result.{writtenCount, resultOf}
 use Rattle.result.specs.Layout.{resultLength}
 use Rattle.result.specs.Refusal.{refusalOf, earlyRefusal, lateRefusal}
 use Rattle.result.proofs.RefusalLaws.{early-passed, refusal-early, refusal-late}
@@ -57,10 +57,10 @@ module _ (xs notes : List ℕ) (m room n : ℕ) (q : m ≡ recordCount xs) (e : 
     unfolding answerBy
     by-room s = rw (← late, eq-eqb n 0 (omega (arith, h)), ← length-told, lt-ltb room needed s) refl
 
-    pub by-result : (count : ℕ) → needed ≤ room → count ≡ written (outcomesIn m notes) → Written needed count ≡ answerBy xs told room
+    pub by-result : (count : ℕ) → needed ≤ room → count ≡ writtenCount (outcomesIn m notes) → Written needed count ≡ answerBy xs told room
     unfolding answerBy
     by-result count s c =
-        let d : count ≡ written told = rw q at c in
+        let d : count ≡ writtenCount told = rw q at c in
         rw (← late, eq-eqb n 0 (omega (arith, h)), ← length-told, le-ltb room needed s, d) refl
 
 pub ruleset ways-out = (by-late, by-room, by-result)
@@ -122,7 +122,7 @@ wayOf (NoRoom bytes) = 2
 pub record Accepts (xs : List ℕ) (os : List Outcome) (room count : ℕ) : Type 0 where
   pub passed : lateRefusal xs os ≡ 0
   pub fits : resultLength os ≤ room
-  pub counted : count ≡ written os
+  pub counted : count ≡ writtenCount os
 
 accepts : (xs : List ℕ) (os : List Outcome) (room bytes count : ℕ) → answerBy xs os room ≡ Written bytes count → Accepts xs os room count
 unfolding answerBy

@@ -10,10 +10,10 @@ use Rattle.plan_listing.specs.Job.{Job}
 use Rattle.plan.specs.declared.Outcome.{Outcome}
 use Rattle.plan.specs.Notes.{outcomesIn}
 use Rattle.plan.specs.Plan.{plan}
-use Rattle.result.specs.Result.{written}
+use Rattle.result.specs.Result.{writtenCount}
 use Rattle.result.specs.Layout.{resultLength}
 use Rattle.result.specs.Refusal.{earlyRefusal, lateRefusal}
-use Rattle.result_layout.specs.Counts.{Told}
+use Rattle.result_layout.specs.Counts.{OutcomesTold}
 use Rattle.cmap_promise.specs.declared.Answer.{Answer}
 use Rattle.cmap_promise.specs.declared.Answer.the-variants.{Written, Refused, NoRoom}
 
@@ -25,14 +25,14 @@ pub record Passing (j : Job) : Type 0 where
 pub record Planned (j : Job) (notes : List ℕ) : Type 0 where
   pub passing : Passing j
   pub is : outcomesIn (recordCount (j .source)) notes ≡ plan j
-  pub told : Told (recordCount (j .source)) notes
+  pub told : OutcomesTold (recordCount (j .source)) notes
 
 -- the records are all there, and each has an outcome
 pub record Concludes (xs notes : List ℕ) : Type 0 where
   pub counted : Counted xs (recordCount xs)
-  pub told : Told (recordCount xs) notes
+  pub told : OutcomesTold (recordCount xs) notes
 
 -- the answer where refusals 1 to 7 let pass, with room for so many bytes
 unfoldable pub answerBy : List ℕ → List Outcome → ℕ → Answer
 answerBy xs os room =
-    pick (eqb (lateRefusal xs os) 0) (pick (ltb room (resultLength os)) (NoRoom (resultLength os)) (Written (resultLength os) (written os))) (Refused (lateRefusal xs os))
+    pick (eqb (lateRefusal xs os) 0) (pick (ltb room (resultLength os)) (NoRoom (resultLength os)) (Written (resultLength os) (writtenCount os))) (Refused (lateRefusal xs os))

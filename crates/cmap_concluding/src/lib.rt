@@ -8,12 +8,12 @@ ghost use mathlib.Core.Path.{_≡_};
 ghost use Prim.Native.Nat.{_<_, _≤_};
 ghost use Rattle.source_header.specs.Header.{recordCount};
 ghost use Rattle.plan.specs.Notes.{outcomesIn};
-ghost use Rattle.result.specs.Layout.{placeOf};
-ghost use Rattle.result_layout.specs.Counts.{Told};
+ghost use Rattle.result.specs.Layout.{placeBySizes};
+ghost use Rattle.result_layout.specs.Counts.{OutcomesTold};
 ghost use Rattle.cmap_promise.specs.declared.FateKind.the-variants.{WrittenAt};
 ghost use Rattle.cmap_promise.specs.Fates.{leftOutAs, kindOf, noFate};
 ghost use Rattle.cmap_concluding.specs.Concluding.{Concludes, answerBy};
-ghost use Rattle.cmap_concluding.specs.Found.{fateBy, Found};
+ghost use Rattle.cmap_concluding.specs.Found.{fateBy, ServersThere};
 ghost use Rattle.plan.specs.Outcomes.{at};
 
 // ---- the answer
@@ -65,9 +65,9 @@ fn left_out_as(why: Why) -> FateKind
 }
 
 fn written_at(notes: &[usize], m: usize, k: usize) -> FateKind
-    requires { ⌜ Told m (now notes) ⌝ }
+    requires { ⌜ OutcomesTold m (now notes) ⌝ }
     requires { ⌜ k < m ⌝ }
-    ensures { λ r. ⌜ r ≡ WrittenAt (placeOf (outcomesIn m (now (notes .entry))) k) ⌝ }
+    ensures { λ r. ⌜ r ≡ WrittenAt (placeBySizes (outcomesIn m (now (notes .entry))) k) ⌝ }
 {
     let count = result_layout::count_written(notes, m);
     FateKind::WrittenAt(result_layout::offset_of(notes, m, k, count))
@@ -75,9 +75,9 @@ fn written_at(notes: &[usize], m: usize, k: usize) -> FateKind
 
 // What became of record k of m.
 fn kind_of(notes: &[usize], m: usize, k: usize) -> FateKind
-    requires { ⌜ Found m (now notes) ⌝ }
+    requires { ⌜ ServersThere m (now notes) ⌝ }
     requires { ⌜ k < m ⌝ }
-    ensures { λ r. ⌜ (let os = outcomesIn m (now (notes .entry)) in r ≡ kindOf (placeOf os) (at os k) k) ⌝ }
+    ensures { λ r. ⌜ (let os = outcomesIn m (now (notes .entry)) in r ≡ kindOf (placeBySizes os) (at os k) k) ⌝ }
 {
     match plan_outcomes::outcome_at(notes, k) {
         Outcome::LeftOut(why) => left_out_as(why),
@@ -90,7 +90,7 @@ fn kind_of(notes: &[usize], m: usize, k: usize) -> FateKind
 // Refusals 8 and 9, then what became of record k.
 pub fn fate_by(s: &[u8], notes: &[usize], k: usize) -> Fate
     requires { ⌜ Concludes (now s) (now notes) ⌝ }
-    requires { ⌜ Found (recordCount (now s)) (now notes) ⌝ }
+    requires { ⌜ ServersThere (recordCount (now s)) (now notes) ⌝ }
     ensures { λ r. ⌜ r ≡ fateBy (now (s .entry)) (outcomesIn (recordCount (now (s .entry))) (now (notes .entry))) k ⌝ }
 {
     let m = source_header::record_count(s);

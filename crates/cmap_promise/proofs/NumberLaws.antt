@@ -9,11 +9,11 @@ use Rattle.laws.specs.Choice.{pick}
 use Rattle.laws.specs.Linked.{Each}
 use Rattle.laws.proofs.ChoiceLaws.{by-pick}
 use Rattle.plan_listing.specs.Job.{Job}
-use Rattle.result.specs.Refusal.{Case, firstOf, refusals, refusalOf, rises}
+use Rattle.result.specs.Refusal.{Refusal, firstOf, refusals, refusalOf, rises}
 use Rattle.result.proofs.RefusalLaws.{first-append, first-stays}
 use Rattle.cmap_promise.specs.Cmap.{result, numberIn}
 
-abbrev ten : Job → ℕ → List Case
+abbrev ten : Job → ℕ → List Refusal
 ten j room = (10, ltb room (length (result j))) ∷ []
 
 pub number-refused : (j : Job) (room : ℕ) → 0 < refusalOf j → numberIn j room ≡ refusalOf j
@@ -24,7 +24,7 @@ pub number-passed : (j : Job) (room : ℕ) → refusalOf j ≡ 0 → numberIn j 
 unfolding numberIn refusalOf rises
 number-passed j room e = first-append (refusals j) (ten j room) refl e
 
-first-low : (cs : List Case) → Each (λ (c : Case). c .0 < 10) cs → firstOf cs < 10
+first-low : (cs : List Refusal) → Each (λ (c : Refusal). c .0 < 10) cs → firstOf cs < 10
 first-low [] h = omega arith
 first-low (c ∷ cs) h =
     by-pick (λ n. n < 10) (c .1) (c .0) (firstOf cs) (λ e. h .0) (λ e. first-low cs (h .1))

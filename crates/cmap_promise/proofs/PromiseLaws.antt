@@ -24,15 +24,15 @@ use Rattle.plan.specs.declared.Why.the-variants.{NotRetained, Skipped, Empty, T
 use Rattle.plan.specs.declared.Outcome.the-variants.{LeftOut, BadMapping, Served, Made}
 use Rattle.plan.specs.Outcomes.{isBad}
 use Rattle.plan.specs.Plan.{plan, refused8}
-use Rattle.result.specs.Result.{written, offsetOf}
+use Rattle.result.specs.Result.{writtenCount, newOffset}
 use Rattle.plan.specs.Outcomes.{at}
-use Rattle.result.specs.Refusal.{Case, firstOf, refusalOf, rises}
-use Rattle.result.proofs.RefusalLaws.{Given, given-exactly, Accepted, accepted-exactly, passed}
+use Rattle.result.specs.Refusal.{Refusal, firstOf, refusalOf, rises}
+use Rattle.result.proofs.RefusalLaws.{GivenExactly, given-exactly, Accepted, accepted-exactly, passed}
 use Rattle.cmap_promise.specs.declared.Answer.{Answer}
 use Rattle.cmap_promise.specs.declared.Answer.the-variants.{Written, Refused, NoRoom}
 use Rattle.cmap_promise.specs.declared.Fate.{Fate}
 use Rattle.cmap_promise.specs.declared.FateKind.the-variants.{Refused as FateRefused, NoSuchRecord}
-use Rattle.cmap_promise.specs.Fates.{numberOf as fateNumberOf, leftOutAs, kindOf, recordFate, noFate, fateOf}
+use Rattle.cmap_promise.specs.Fates.{fateNumberOf, leftOutAs, kindOf, recordFate, noFate, fateOf}
 use Rattle.cmap_promise.specs.Cmap.{numberOf, lengthOf, result, refusalsIn, numberIn, answerOf, leaves, outputOf}
 use Rattle.cmap_promise.proofs.NumberLaws.{number-refused, number-passed}
 
@@ -43,11 +43,11 @@ unfolding rises
 all-rise j room = refl
 
 -- a refusal's number is given exactly when its condition holds and none before it does
-pub numbered-exactly : (j : Job) (room : ℕ) (front back : List Case) (n : ℕ) (b : Bool) → refusalsIn j room ≡ front ++ ((n, b) ∷ back) → Given (numberIn j room) front n b
+pub numbered-exactly : (j : Job) (room : ℕ) (front back : List Refusal) (n : ℕ) (b : Bool) → refusalsIn j room ≡ front ++ ((n, b) ∷ back) → GivenExactly (numberIn j room) front n b
 unfolding numberIn
 numbered-exactly j room front back n b e =
-    let r = subst (λ (cs : List Case). rises 0 cs ≡ true) e (all-rise j room) in
-    subst (λ (cs : List Case). Given (firstOf cs) front n b) (sym e) (given-exactly front back n b r)
+    let r = subst (λ (cs : List Refusal). rises 0 cs ≡ true) e (all-rise j room) in
+    subst (λ (cs : List Refusal). GivenExactly (firstOf cs) front n b) (sym e) (given-exactly front back n b r)
 
 -- an acceptance exactly where no condition holds
 pub accepted-exactly-in : (j : Job) (room : ℕ) → Accepted (numberIn j room) (refusalsIn j room)
@@ -58,7 +58,7 @@ accepted-exactly-in j room = accepted-exactly (refusalsIn j room) (all-rise j ro
 pub number-answered : (j : Job) (room : ℕ) → numberOf (answerOf j room) ≡ numberIn j room
 unfolding answerOf
 number-answered j room =
-    let accepted = Written (length (result j)) (written (plan j)) in
+    let accepted = Written (length (result j)) (writtenCount (plan j)) in
     let short = NoRoom (length (result j)) in
     by-pick (λ a. numberOf a ≡ numberIn j room) (eqb (refusalOf j) 0) (pick (ltb room (length (result j))) short accepted) (Refused (refusalOf j))
     (λ z.
@@ -85,7 +85,7 @@ accepted-fits j room e =
     go true f = absurd (omega arith)
     go false f = refl
 
-accepted-answer : (j : Job) (room : ℕ) → numberIn j room ≡ 0 → answerOf j room ≡ Written (length (result j)) (written (plan j))
+accepted-answer : (j : Job) (room : ℕ) → numberIn j room ≡ 0 → answerOf j room ≡ Written (length (result j)) (writtenCount (plan j))
 unfolding answerOf
 accepted-answer j room e = rw (eq-eqb (refusalOf j) 0 (accepted-passed j room e), le-ltb room (length (result j)) (accepted-fits j room e)) refl
 
@@ -160,7 +160,7 @@ unfolding fateOf refused8
 fate-number j k =
     let os = plan j in
     let count = recordCount (j .source) in
-    let fate = recordFate (offsetOf j os) (j .source) os k in
+    let fate = recordFate (newOffset j os) (j .source) os k in
     let P : Fate → Type 0 = λ f. fateNumberOf (f .kind) ≡ refusalOf j in
     by-pick P (eqb (refusalOf j) 0) (pick (ltb k count) fate (noFate NoSuchRecord)) (noFate (FateRefused (refusalOf j)))
     (λ e.
@@ -168,6 +168,6 @@ fate-number j k =
     let none = sym (anyOf-some isBad (LeftOut NotRetained) os) ∙ passed j z .mappings in
     by-pick P (ltb k count) fate (noFate NoSuchRecord)
     (λ l.
-    kind-number (offsetOf j os) (at os k) k (some-false (λ i. isBad (at os i)) (length os) 0 none k (omega arith) (omega (arith, ltb-true k count l, length-plan j))) ∙ sym z)
+    kind-number (newOffset j os) (at os k) k (some-false (λ i. isBad (at os i)) (length os) 0 none k (omega arith) (omega (arith, ltb-true k count l, length-plan j))) ∙ sym z)
     (λ l. sym z))
     (λ e. refl)

@@ -11,7 +11,7 @@ use Rattle.laws.proofs.StandsLaws.{Stands}
 use Rattle.number.specs.BigEndian.{Bytes}
 use Rattle.source_header.specs.declared.Header.the-variants.{Records}
 use Rattle.source_header.specs.Header.{recordCount, platformOf, encodingOf, headerOf}
-use Rattle.source_header.specs.Header.{offsetOf as offsetAt}
+use Rattle.source_header.specs.Header.{offsetOf}
 use Rattle.source.specs.Kind.{kindAt, formatOf}
 use Rattle.source_header.proofs.HeaderLaws.{accepted-of, gives-records}
 use Rattle.source_records.specs.Records.{leadsTo}
@@ -27,7 +27,7 @@ use Rattle.result.specs.Lent.{Lent}
 use Rattle.result.proofs.LentLaws.{lent}
 use Rattle.result.proofs.TablesLaws.{made-format}
 use Rattle.result.proofs.PlanLaws.{plan-past}
-use Rattle.result.specs.Result.{countFrom, written, offsetOf}
+use Rattle.result.specs.Result.{countFrom, writtenCount, newOffset}
 use Rattle.plan.specs.Outcomes.{isWritten, makerOf, at}
 use Rattle.result.specs.Refusal.{refusalOf}
 use Rattle.result.proofs.CountLaws.{count-one, count-find}
@@ -43,10 +43,10 @@ use Rattle.cmap_promise.specs.Fates.{leftOutAs, kindOf, recordFate, fate
 -- record k of the source stands in the result, and leads to a readable table of its own format at the offset: the one that its maker made
 pub record ReadsBack (j : Job) (k offset : ℕ) : Type 0 where
   pub place : ℕ
-  pub inside : place < written (plan j)
+  pub inside : place < writtenCount (plan j)
   pub platform : platformOf (result j) place ≡ platformOf (j .source) k
   pub encoding : encodingOf (result j) place ≡ encodingOf (j .source) k
-  pub leads : offsetAt (result j) place ≡ offset
+  pub leads : offsetOf (result j) place ≡ offset
   pub format : formatOf (leadsTo (result j) place) ≡ formatOf (leadsTo (j .source) k)
   pub maker : ℕ
   pub earlier : maker ≤ k
@@ -104,10 +104,10 @@ module _ (j : Job) (bytes : Bytes (j .source)) (accepted : refusalOf j ≡ 0) wh
   sound = plan-sound j limits few
 
   -- the result's header is that of a source, and counts the records that are written
-  pub result-header : headerOf (result j) ≡ Records (written (plan j))
+  pub result-header : headerOf (result j) ≡ Records (writtenCount (plan j))
   result-header = sym (gives-records (result j) (accepted-result j (plan j) sound))
 
-  fate-is : (k : ℕ) → k < recordCount (j .source) → fateOf j k ≡ recordFate (offsetOf j (plan j)) (j .source) (plan j) k
+  fate-is : (k : ℕ) → k < recordCount (j .source) → fateOf j k ≡ recordFate (newOffset j (plan j)) (j .source) (plan j) k
   unfolding fateOf
   fate-is k h = rw (eq-eqb (refusalOf j) 0 accepted, lt-ltb k (recordCount (j .source)) h) refl
 
@@ -118,10 +118,10 @@ module _ (j : Job) (bytes : Bytes (j .source)) (accepted : refusalOf j ≡ 0) wh
       (λ h. h)
 
   -- the fate of a record that is written
-  pub written-fate : (k : ℕ) → isWritten (at (plan j) k) ≡ true → fateOf j k .kind ≡ WrittenAt (offsetOf j (plan j) (makerOf (at (plan j) k) k))
-  written-fate k w = ap (λ (r : Fate). r .kind) (fate-is k (inside-count k w)) ∙ written-kind (offsetOf j (plan j)) (at (plan j) k) k w
+  pub written-fate : (k : ℕ) → isWritten (at (plan j) k) ≡ true → fateOf j k .kind ≡ WrittenAt (newOffset j (plan j) (makerOf (at (plan j) k) k))
+  written-fate k w = ap (λ (r : Fate). r .kind) (fate-is k (inside-count k w)) ∙ written-kind (newOffset j (plan j)) (at (plan j) k) k w
 
-  back : (k : ℕ) → isWritten (at (plan j) k) ≡ true → ReadsBack j k (offsetOf j (plan j) (makerOf (at (plan j) k) k))
+  back : (k : ℕ) → isWritten (at (plan j) k) ≡ true → ReadsBack j k (newOffset j (plan j) (makerOf (at (plan j) k) k))
   unfolding leadsTo
   back k w =
       let os = plan j in
@@ -146,19 +146,19 @@ module _ (j : Job) (bytes : Bytes (j .source)) (accepted : refusalOf j ≡ 0) wh
   pub fate-reads-back : (k offset : ℕ) → k < recordCount (j .source) → fateOf j k .kind ≡ WrittenAt offset → ReadsBack j k offset
   fate-reads-back k offset h f =
       let os = plan j in
-      let q : kindOf (offsetOf j os) (at os k) k ≡ WrittenAt offset = ap (λ (r : Fate). r .kind) (sym (fate-is k h)) ∙ f in
-      let w = kind-written (offsetOf j os) (at os k) k (ap isWrittenAt q) in
-      let same : offsetOf j os (makerOf (at os k) k) ≡ offset = ap offsetIn (sym (written-kind (offsetOf j os) (at os k) k w) ∙ q) in
+      let q : kindOf (newOffset j os) (at os k) k ≡ WrittenAt offset = ap (λ (r : Fate). r .kind) (sym (fate-is k h)) ∙ f in
+      let w = kind-written (newOffset j os) (at os k) k (ap isWrittenAt q) in
+      let same : newOffset j os (makerOf (at os k) k) ≡ offset = ap offsetIn (sym (written-kind (newOffset j os) (at os k) k w) ∙ q) in
       rw same at (back k w)
 
   -- and nothing else does: record i of the result is a record of the source whose fate says so
   pub record Told (i : ℕ) : Type 0 where
     pub from : ℕ
     pub there : from < recordCount (j .source)
-    pub fate : fateOf j from .kind ≡ WrittenAt (offsetAt (result j) i)
+    pub fate : fateOf j from .kind ≡ WrittenAt (offsetOf (result j) i)
     pub at-place : countFrom (plan j) from 0 ≡ i
 
-  pub record-told : (i : ℕ) → i < written (plan j) → Told i
+  pub record-told : (i : ℕ) → i < writtenCount (plan j) → Told i
   record-told i h =
       let os = plan j in
       let t = count-find os (length os) 0 i h in
@@ -169,6 +169,6 @@ module _ (j : Job) (bytes : Bytes (j .source)) (accepted : refusalOf j ≡ 0) wh
       record {
         from = k;
         there = l;
-        fate = written-fate k w ∙ ap WrittenAt (sym (e .offset) ∙ ap (λ (n : ℕ). offsetAt (result j) n) (t .before));
+        fate = written-fate k w ∙ ap WrittenAt (sym (e .offset) ∙ ap (λ (n : ℕ). offsetOf (result j) n) (t .before));
         at-place = t .before;
       }

@@ -1,4 +1,4 @@
--- The answer to a job, and what the call leaves in the output (docs/01-rules.md, "Numbers of refusal").
+-- The answer to a job, and what the call leaves in the output (docs/RULES.md, "Numbers of refusal").
 use Prim.Native.Nat.{ℕ}
 use mathlib.Core.List.{List, [], _∷_, _++_}
 use lib.Dec.{ltb, eqb}
@@ -7,8 +7,8 @@ use Rattle.laws.specs.Choice.{pick}
 use Rattle.laws.specs.Lists.{laid}
 use Rattle.plan_listing.specs.Job.{Job}
 use Rattle.plan.specs.Plan.{plan}
-use Rattle.result.specs.Result.{written, resultOf}
-use Rattle.result.specs.Refusal.{Case, firstOf, refusals, refusalOf}
+use Rattle.result.specs.Result.{writtenCount, resultOf}
+use Rattle.result.specs.Refusal.{Refusal, firstOf, refusals, refusalOf}
 use Rattle.cmap_promise.specs.declared.Answer.{Answer}
 use Rattle.cmap_promise.specs.declared.Answer.the-variants.{Written, Refused, NoRoom}
 
@@ -39,7 +39,7 @@ result j = resultOf j (plan j)
 unfoldable pub answerOf : Job → ℕ → Answer
 answerOf j room =
     pick (eqb (refusalOf j) 0)
-    (pick (ltb room (length (result j))) (NoRoom (length (result j))) (Written (length (result j)) (written (plan j))))
+    (pick (ltb room (length (result j))) (NoRoom (length (result j))) (Written (length (result j)) (writtenCount (plan j))))
     (Refused (refusalOf j))
 
 -- a refusal writes nothing; an acceptance leaves the result, and then the rest as it was
@@ -54,7 +54,7 @@ outputOf j out = leaves (answerOf j (length out)) (result j) out
 -- ---- the numbers in their order
 
 -- 10: the whole result is longer than the output
-abbrev pub refusalsIn : Job → ℕ → List Case
+abbrev pub refusalsIn : Job → ℕ → List Refusal
 refusalsIn j room = refusals j ++ ((10, ltb room (length (result j))) ∷ [])
 
 -- the first that holds, with room for so many bytes; 0 is an acceptance

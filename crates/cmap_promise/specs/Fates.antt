@@ -1,4 +1,4 @@
--- What became of a record, as the call for fates tells it (docs/01-rules.md, "Records").
+-- What became of a record, as the call for fates tells it (docs/RULES.md, "Records").
 use Prim.Native.Nat.{ℕ}
 use mathlib.Core.List.{List}
 use lib.Dec.{ltb, eqb}
@@ -10,7 +10,7 @@ use Rattle.plan.specs.declared.Why.{Why}
 use Rattle.plan.specs.declared.Why.the-variants.{NotRetained, Skipped, Empty, TooLong, Covered}
 use Rattle.plan.specs.declared.Outcome.the-variants.{LeftOut, BadMapping, Served, Made}
 use Rattle.plan.specs.Plan.{plan}
-use Rattle.result.specs.Result.{offsetOf}
+use Rattle.result.specs.Result.{newOffset}
 use Rattle.plan.specs.Outcomes.{at}
 use Rattle.result.specs.Refusal.{refusalOf}
 use Rattle.cmap_promise.specs.declared.Fate.{Fate}
@@ -44,16 +44,16 @@ noFate kind = record { platform = 0; encoding = 0; kind = kind }
 unfoldable pub fateOf : Job → ℕ → Fate
 fateOf j k =
     pick (eqb (refusalOf j) 0)
-    (pick (ltb k (recordCount (j .source))) (recordFate (offsetOf j (plan j)) (j .source) (plan j) k) (noFate NoSuchRecord))
+    (pick (ltb k (recordCount (j .source))) (recordFate (newOffset j (plan j)) (j .source) (plan j) k) (noFate NoSuchRecord))
     (noFate (Refused (refusalOf j)))
 
 -- the number of the answer: 0 but for a refusal
-abbrev pub numberOf : FateKind → ℕ
-numberOf FateNotRetained = 0
-numberOf FateSkipped = 0
-numberOf FateEmpty = 0
-numberOf FateTooLong = 0
-numberOf FateCovered = 0
-numberOf (WrittenAt offset) = 0
-numberOf (Refused number) = number
-numberOf NoSuchRecord = 0
+abbrev pub fateNumberOf : FateKind → ℕ
+fateNumberOf FateNotRetained = 0
+fateNumberOf FateSkipped = 0
+fateNumberOf FateEmpty = 0
+fateNumberOf FateTooLong = 0
+fateNumberOf FateCovered = 0
+fateNumberOf (WrittenAt offset) = 0
+fateNumberOf (Refused number) = number
+fateNumberOf NoSuchRecord = 0

@@ -14,8 +14,8 @@ use Rattle.plan.specs.Plan.{plan}
 use Rattle.plan.specs.Prepared.{Prepared}
 use Rattle.plan.specs.Notes.{outcomesIn, Fronted, Endings}
 use Rattle.plan.proofs.PlanLaws.{prepared-again}
-use Rattle.result.specs.Result.{offsetOf}
-use Rattle.result.specs.Layout.{placeOf}
+use Rattle.result.specs.Result.{newOffset}
+use Rattle.result.specs.Layout.{placeBySizes}
 use Rattle.result.proofs.LengthLaws.{offset-place}
 use Rattle.result.proofs.PlanLaws.{Serving, plan-served}
 use Rattle.result.proofs.RefusalLaws.{refusal-late}
@@ -26,7 +26,7 @@ use Rattle.cmap_promise.specs.declared.FateKind.{FateKind}
 use Rattle.cmap_promise.specs.declared.FateKind.the-variants.{WrittenAt}
 use Rattle.cmap_promise.specs.Fates.{kindOf, recordFate, fateOf}
 use Rattle.cmap_concluding.specs.Concluding.{Passing, Planned, Concludes}
-use Rattle.cmap_concluding.specs.Found.{Found, fateBy}
+use Rattle.cmap_concluding.specs.Found.{ServersThere, fateBy}
 use Rattle.cmap_concluding.proofs.PassingLaws.{planned, planned-settled}
 use Rattle.cmap_concluding.proofs.AnswerLaws.{made-long}
 use Rattle.cmap_rooms.specs.Rooms.{Writes}
@@ -63,19 +63,19 @@ module _ (s cs gs ks ms rs notes : List ℕ) where
       endings = g;
     }
 
-    pub is-found : Found (recordCount s) notes
+    pub is-found : ServersThere (recordCount s) notes
     is-found = record { told = is-planned .told; serving = λ k r d. earlier k r (plan-served j k r (ap (λ (o : List Outcome). at o k) (sym e) ∙ d)) }
       where
         earlier : (k r : ℕ) → Serving j k r → r < recordCount s
         earlier k r t = omega (arith, t .earlier, t .inside)
 
-    place-offset : (i : ℕ) → placeOf os i ≡ offsetOf j (plan j) i
-    place-offset i = ap (λ (o : List Outcome). placeOf o i) e ∙ sym (offset-place j (plan j) (made-long j) i)
+    place-offset : (i : ℕ) → placeBySizes os i ≡ newOffset j (plan j) i
+    place-offset i = ap (λ (o : List Outcome). placeBySizes o i) e ∙ sym (offset-place j (plan j) (made-long j) i)
 
-    fate-same : (k : ℕ) → recordFate (placeOf os) s os k ≡ recordFate (offsetOf j (plan j)) s (plan j) k
+    fate-same : (k : ℕ) → recordFate (placeBySizes os) s os k ≡ recordFate (newOffset j (plan j)) s (plan j) k
     fate-same k =
         ap (λ (z : FateKind). record { platform = platformOf s k; encoding = encodingOf s k; kind = z })
-        (kind-alike (placeOf os) (offsetOf j (plan j)) (at os k) k place-offset ∙ ap (λ (o : List Outcome). kindOf (offsetOf j (plan j)) (at o k) k) e)
+        (kind-alike (placeBySizes os) (newOffset j (plan j)) (at os k) k place-offset ∙ ap (λ (o : List Outcome). kindOf (newOffset j (plan j)) (at o k) k) e)
 
     pub fate-told : (k : ℕ) (r : Fate) → r ≡ fateBy s os k → r ≡ fateOf j k
     unfolding fateOf fateBy

@@ -9,7 +9,7 @@ use Rattle.plan.specs.Notes.{outcomesIn, Fronted, Endings}
 use Rattle.cmap_concluding.specs.Concluding.{Planned}
 
 -- so many flags and places for pairs are enough
-pub record Few (flags places : ℕ) (codes kept : List ℕ) : Type 0 where
+pub record FitsRoom (flags places : ℕ) (codes kept : List ℕ) : Type 0 where
   pub points : length kept ≤ flags
   pub pairs : length codes ≤ places
 

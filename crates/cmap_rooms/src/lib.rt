@@ -13,7 +13,7 @@ ghost use Rattle.plan.specs.Prepared.{Prepared};
 ghost use Rattle.cmap_promise.specs.Cmap.{answerOf, outputOf};
 ghost use Rattle.cmap_promise.specs.Fates.{fateOf};
 ghost use Rattle.cmap_concluding.specs.Concluding.{Passing, Planned, answerBy};
-ghost use Rattle.cmap_rooms.specs.Rooms.{Few, Writes};
+ghost use Rattle.cmap_rooms.specs.Rooms.{FitsRoom, Writes};
 
 // Room that is enough for most jobs, and cleared in no time.
 const SMALL_KEPT: usize = 4096;
@@ -117,38 +117,6 @@ fn carry_out_on(
     answer
 }
 
-fn carry_out_on_small_room(
-    s: &[u8],
-    codes: &[u32],
-    glyphs: &[u16],
-    kept: &[u32],
-    map: &[u16],
-    requested: &[u16],
-    flags: &mut [u8; SMALL_KEPT],
-    others: &mut [u8; SMALL_KEPT],
-    tocodes: &mut [u32; SMALL_PAIRS],
-    toglyphs: &mut [u16; SMALL_PAIRS],
-    out: &mut [u8],
-) -> Answer
-    requires { ⌜ Passing (job (now s) (now codes) (now glyphs) (now kept) (now map) (now requested)) ⌝ }
-    requires { ⌜ Few 4096 2048 (now codes) (now kept) ⌝ }
-    ensures { λ r. ⌜ (let j = job (now (s .entry)) (now (codes .entry)) (now (glyphs .entry)) (now (kept .entry)) (now (map .entry)) (now (requested .entry)) in (r ≡ answerOf j (length (now (out .entry)))) × (now (out .exit) ≡ outputOf j (now (out .entry)))) ⌝ }
-{
-    carry_out_on(
-        s,
-        codes,
-        glyphs,
-        kept,
-        map,
-        requested,
-        flags,
-        others,
-        tocodes,
-        toglyphs,
-        out,
-    )
-}
-
 fn carry_out_in_small_room(
     s: &[u8],
     codes: &[u32],
@@ -159,14 +127,14 @@ fn carry_out_in_small_room(
     out: &mut [u8],
 ) -> Answer
     requires { ⌜ Passing (job (now s) (now codes) (now glyphs) (now kept) (now map) (now requested)) ⌝ }
-    requires { ⌜ Few 4096 2048 (now codes) (now kept) ⌝ }
+    requires { ⌜ FitsRoom 4096 2048 (now codes) (now kept) ⌝ }
     ensures { λ r. ⌜ (let j = job (now (s .entry)) (now (codes .entry)) (now (glyphs .entry)) (now (kept .entry)) (now (map .entry)) (now (requested .entry)) in (r ≡ answerOf j (length (now (out .entry)))) × (now (out .exit) ≡ outputOf j (now (out .entry)))) ⌝ }
 {
     let mut flags = [0u8; SMALL_KEPT];
     let mut others = [0u8; SMALL_KEPT];
     let mut tocodes = [0u32; SMALL_PAIRS];
     let mut toglyphs = [0u16; SMALL_PAIRS];
-    carry_out_on_small_room(
+    carry_out_on(
         s,
         codes,
         glyphs,
@@ -177,38 +145,6 @@ fn carry_out_in_small_room(
         &mut others,
         &mut tocodes,
         &mut toglyphs,
-        out,
-    )
-}
-
-fn carry_out_on_middle_room(
-    s: &[u8],
-    codes: &[u32],
-    glyphs: &[u16],
-    kept: &[u32],
-    map: &[u16],
-    requested: &[u16],
-    flags: &mut [u8; MIDDLE_KEPT],
-    others: &mut [u8; MIDDLE_KEPT],
-    tocodes: &mut [u32; MIDDLE_PAIRS],
-    toglyphs: &mut [u16; MIDDLE_PAIRS],
-    out: &mut [u8],
-) -> Answer
-    requires { ⌜ Passing (job (now s) (now codes) (now glyphs) (now kept) (now map) (now requested)) ⌝ }
-    requires { ⌜ Few 32768 16384 (now codes) (now kept) ⌝ }
-    ensures { λ r. ⌜ (let j = job (now (s .entry)) (now (codes .entry)) (now (glyphs .entry)) (now (kept .entry)) (now (map .entry)) (now (requested .entry)) in (r ≡ answerOf j (length (now (out .entry)))) × (now (out .exit) ≡ outputOf j (now (out .entry)))) ⌝ }
-{
-    carry_out_on(
-        s,
-        codes,
-        glyphs,
-        kept,
-        map,
-        requested,
-        flags,
-        others,
-        tocodes,
-        toglyphs,
         out,
     )
 }
@@ -223,14 +159,14 @@ fn carry_out_in_middle_room(
     out: &mut [u8],
 ) -> Answer
     requires { ⌜ Passing (job (now s) (now codes) (now glyphs) (now kept) (now map) (now requested)) ⌝ }
-    requires { ⌜ Few 32768 16384 (now codes) (now kept) ⌝ }
+    requires { ⌜ FitsRoom 32768 16384 (now codes) (now kept) ⌝ }
     ensures { λ r. ⌜ (let j = job (now (s .entry)) (now (codes .entry)) (now (glyphs .entry)) (now (kept .entry)) (now (map .entry)) (now (requested .entry)) in (r ≡ answerOf j (length (now (out .entry)))) × (now (out .exit) ≡ outputOf j (now (out .entry)))) ⌝ }
 {
     let mut flags = [0u8; MIDDLE_KEPT];
     let mut others = [0u8; MIDDLE_KEPT];
     let mut tocodes = [0u32; MIDDLE_PAIRS];
     let mut toglyphs = [0u16; MIDDLE_PAIRS];
-    carry_out_on_middle_room(
+    carry_out_on(
         s,
         codes,
         glyphs,
@@ -241,37 +177,6 @@ fn carry_out_in_middle_room(
         &mut others,
         &mut tocodes,
         &mut toglyphs,
-        out,
-    )
-}
-
-fn carry_out_on_full_room(
-    s: &[u8],
-    codes: &[u32],
-    glyphs: &[u16],
-    kept: &[u32],
-    map: &[u16],
-    requested: &[u16],
-    flags: &mut [u8; KEPT_MAX],
-    others: &mut [u8; KEPT_MAX],
-    tocodes: &mut [u32; PAIRS_MAX],
-    toglyphs: &mut [u16; PAIRS_MAX],
-    out: &mut [u8],
-) -> Answer
-    requires { ⌜ Passing (job (now s) (now codes) (now glyphs) (now kept) (now map) (now requested)) ⌝ }
-    ensures { λ r. ⌜ (let j = job (now (s .entry)) (now (codes .entry)) (now (glyphs .entry)) (now (kept .entry)) (now (map .entry)) (now (requested .entry)) in (r ≡ answerOf j (length (now (out .entry)))) × (now (out .exit) ≡ outputOf j (now (out .entry)))) ⌝ }
-{
-    carry_out_on(
-        s,
-        codes,
-        glyphs,
-        kept,
-        map,
-        requested,
-        flags,
-        others,
-        tocodes,
-        toglyphs,
         out,
     )
 }
@@ -292,7 +197,7 @@ fn carry_out_in_full_room(
     let mut others = [0u8; KEPT_MAX];
     let mut tocodes = [0u32; PAIRS_MAX];
     let mut toglyphs = [0u16; PAIRS_MAX];
-    carry_out_on_full_room(
+    carry_out_on(
         s,
         codes,
         glyphs,
@@ -388,38 +293,6 @@ fn tell_on(
     cmap_concluding::fate_by(s, &notes, k)
 }
 
-fn tell_on_small_room(
-    s: &[u8],
-    codes: &[u32],
-    glyphs: &[u16],
-    kept: &[u32],
-    map: &[u16],
-    requested: &[u16],
-    flags: &mut [u8; SMALL_KEPT],
-    others: &mut [u8; SMALL_KEPT],
-    tocodes: &mut [u32; SMALL_PAIRS],
-    toglyphs: &mut [u16; SMALL_PAIRS],
-    k: usize,
-) -> Fate
-    requires { ⌜ Passing (job (now s) (now codes) (now glyphs) (now kept) (now map) (now requested)) ⌝ }
-    requires { ⌜ Few 4096 2048 (now codes) (now kept) ⌝ }
-    ensures { λ r. ⌜ r ≡ fateOf (job (now (s .entry)) (now (codes .entry)) (now (glyphs .entry)) (now (kept .entry)) (now (map .entry)) (now (requested .entry))) k ⌝ }
-{
-    tell_on(
-        s,
-        codes,
-        glyphs,
-        kept,
-        map,
-        requested,
-        flags,
-        others,
-        tocodes,
-        toglyphs,
-        k,
-    )
-}
-
 fn tell_in_small_room(
     s: &[u8],
     codes: &[u32],
@@ -430,14 +303,14 @@ fn tell_in_small_room(
     k: usize,
 ) -> Fate
     requires { ⌜ Passing (job (now s) (now codes) (now glyphs) (now kept) (now map) (now requested)) ⌝ }
-    requires { ⌜ Few 4096 2048 (now codes) (now kept) ⌝ }
+    requires { ⌜ FitsRoom 4096 2048 (now codes) (now kept) ⌝ }
     ensures { λ r. ⌜ r ≡ fateOf (job (now (s .entry)) (now (codes .entry)) (now (glyphs .entry)) (now (kept .entry)) (now (map .entry)) (now (requested .entry))) k ⌝ }
 {
     let mut flags = [0u8; SMALL_KEPT];
     let mut others = [0u8; SMALL_KEPT];
     let mut tocodes = [0u32; SMALL_PAIRS];
     let mut toglyphs = [0u16; SMALL_PAIRS];
-    tell_on_small_room(
+    tell_on(
         s,
         codes,
         glyphs,
@@ -448,38 +321,6 @@ fn tell_in_small_room(
         &mut others,
         &mut tocodes,
         &mut toglyphs,
-        k,
-    )
-}
-
-fn tell_on_middle_room(
-    s: &[u8],
-    codes: &[u32],
-    glyphs: &[u16],
-    kept: &[u32],
-    map: &[u16],
-    requested: &[u16],
-    flags: &mut [u8; MIDDLE_KEPT],
-    others: &mut [u8; MIDDLE_KEPT],
-    tocodes: &mut [u32; MIDDLE_PAIRS],
-    toglyphs: &mut [u16; MIDDLE_PAIRS],
-    k: usize,
-) -> Fate
-    requires { ⌜ Passing (job (now s) (now codes) (now glyphs) (now kept) (now map) (now requested)) ⌝ }
-    requires { ⌜ Few 32768 16384 (now codes) (now kept) ⌝ }
-    ensures { λ r. ⌜ r ≡ fateOf (job (now (s .entry)) (now (codes .entry)) (now (glyphs .entry)) (now (kept .entry)) (now (map .entry)) (now (requested .entry))) k ⌝ }
-{
-    tell_on(
-        s,
-        codes,
-        glyphs,
-        kept,
-        map,
-        requested,
-        flags,
-        others,
-        tocodes,
-        toglyphs,
         k,
     )
 }
@@ -494,14 +335,14 @@ fn tell_in_middle_room(
     k: usize,
 ) -> Fate
     requires { ⌜ Passing (job (now s) (now codes) (now glyphs) (now kept) (now map) (now requested)) ⌝ }
-    requires { ⌜ Few 32768 16384 (now codes) (now kept) ⌝ }
+    requires { ⌜ FitsRoom 32768 16384 (now codes) (now kept) ⌝ }
     ensures { λ r. ⌜ r ≡ fateOf (job (now (s .entry)) (now (codes .entry)) (now (glyphs .entry)) (now (kept .entry)) (now (map .entry)) (now (requested .entry))) k ⌝ }
 {
     let mut flags = [0u8; MIDDLE_KEPT];
     let mut others = [0u8; MIDDLE_KEPT];
     let mut tocodes = [0u32; MIDDLE_PAIRS];
     let mut toglyphs = [0u16; MIDDLE_PAIRS];
-    tell_on_middle_room(
+    tell_on(
         s,
         codes,
         glyphs,
@@ -512,37 +353,6 @@ fn tell_in_middle_room(
         &mut others,
         &mut tocodes,
         &mut toglyphs,
-        k,
-    )
-}
-
-fn tell_on_full_room(
-    s: &[u8],
-    codes: &[u32],
-    glyphs: &[u16],
-    kept: &[u32],
-    map: &[u16],
-    requested: &[u16],
-    flags: &mut [u8; KEPT_MAX],
-    others: &mut [u8; KEPT_MAX],
-    tocodes: &mut [u32; PAIRS_MAX],
-    toglyphs: &mut [u16; PAIRS_MAX],
-    k: usize,
-) -> Fate
-    requires { ⌜ Passing (job (now s) (now codes) (now glyphs) (now kept) (now map) (now requested)) ⌝ }
-    ensures { λ r. ⌜ r ≡ fateOf (job (now (s .entry)) (now (codes .entry)) (now (glyphs .entry)) (now (kept .entry)) (now (map .entry)) (now (requested .entry))) k ⌝ }
-{
-    tell_on(
-        s,
-        codes,
-        glyphs,
-        kept,
-        map,
-        requested,
-        flags,
-        others,
-        tocodes,
-        toglyphs,
         k,
     )
 }
@@ -563,7 +373,7 @@ fn tell_in_full_room(
     let mut others = [0u8; KEPT_MAX];
     let mut tocodes = [0u32; PAIRS_MAX];
     let mut toglyphs = [0u16; PAIRS_MAX];
-    tell_on_full_room(
+    tell_on(
         s,
         codes,
         glyphs,

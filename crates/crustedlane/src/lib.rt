@@ -1,5 +1,5 @@
 // What a host links: the two calls over pair records, and the two print heads. Any sizes and any bytes get an answer.
-use host_pairs::Pair;
+use host_pairs::PairRecord;
 use host_told::FateAnswer;
 use host_told::HeadAnswer;
 use host_told::SubsetAnswer;
@@ -72,7 +72,7 @@ fn fate_on_room(
 #[no_mangle]
 pub extern "C" fn cmap_subset(
     source: &[u8],
-    pairs: &[Pair],
+    pairs: &[PairRecord],
     codes: &mut [u32],
     glyphs: &mut [u16],
     kept: &[u32],
@@ -108,7 +108,7 @@ pub extern "C" fn cmap_subset(
 #[no_mangle]
 pub extern "C" fn cmap_fate(
     source: &[u8],
-    pairs: &[Pair],
+    pairs: &[PairRecord],
     codes: &mut [u32],
     glyphs: &mut [u16],
     kept: &[u32],

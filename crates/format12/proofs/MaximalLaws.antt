@@ -1,4 +1,4 @@
--- The groups are as docs/01-rules.md says: rows of neighbours that all go on, none of which could go on with the next.
+-- The groups are as docs/RULES.md says: rows of neighbours that all go on, none of which could go on with the next.
 use mathlib.Core.Path.{_≡_, sym, ap, _∙_}
 use mathlib.Core.List.{List, map}
 use Rattle.laws.specs.Lists.{Pair}

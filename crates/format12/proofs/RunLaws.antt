@@ -14,7 +14,7 @@ use Rattle.laws.specs.Lists.{Pair, pairs}
 use Rattle.laws.specs.Pieces.{pieces}
 use Rattle.laws.proofs.ChoiceLaws.{false-true, by-leb}
 use Rattle.laws.proofs.PiecesLaws.{Joined, lone, joined-snoc, pieces-joined, pieces-all}
-use Rattle.lists_runs.specs.Runs.{breaks, Ends}
+use Rattle.lists_runs.specs.Runs.{breaks, RunEndsAt}
 use Rattle.lists_runs.proofs.EndLaws.{Next, run-along, run-breaks}
 use Rattle.format12.specs.declared.Group.{Group}
 use Rattle.format12.specs.Format12.{consecutive, group, grouped, groups, Columns}
@@ -57,7 +57,7 @@ module _ (cs gs : List ℕ) (w : Columns cs gs) where
         ∙ ap (λ (ps : List Pair). pairAt i ∷ ps) (sym (append-snoc (r .others) (pairAt (k + 1)) (from (k + 1 + 1))));
   }
 
-  run-row : (i e : ℕ) → Ends cs gs i e → Row i (e - 1)
+  run-row : (i e : ℕ) → RunEndsAt cs gs i e → Row i (e - 1)
   run-row i e r =
       run-along cs gs i e (Row i) r
       (record { others = []; joined = lone; whole = from-cons i (omega (arith, r .behind, r .within)) })
@@ -68,7 +68,7 @@ module _ (cs gs : List ℕ) (w : Columns cs gs) where
   breaks-consecutive e b = not-true (both (eqb (getD cs e 0) (getD cs (e - 1) 0 + 1)) (eqb (getD gs e 0) (getD gs (e - 1) 0 + 1))) b
 
   -- the run from i on is a group, and the others are those of the pairs behind it
-  pub ahead-run : (i e : ℕ) → Ends cs gs i e → ahead cs gs i ≡ group (getD cs i 0) (getD cs (e - 1) 0) (getD gs i 0) ∷ ahead cs gs e
+  pub ahead-run : (i e : ℕ) → RunEndsAt cs gs i e → ahead cs gs i ≡ group (getD cs i 0) (getD cs (e - 1) 0) (getD gs i 0) ∷ ahead cs gs e
   unfolding grouped
   ahead-run i e r =
       let z : e - 1 + 1 ≡ e = omega (arith, r .behind) in

@@ -6,7 +6,7 @@ use native.Mathlib.Nat.{zero-add}
 use native.Mathlib.Omega.{arith}
 use lib.ListN.{length}
 use Rattle.laws.specs.Lists.{pairs}
-use Rattle.lists_runs.specs.Runs.{Ends}
+use Rattle.lists_runs.specs.Runs.{RunEndsAt}
 use Rattle.number.specs.Row.{encs}
 use Rattle.number.proofs.RowLaws.{length-encs}
 use Rattle.format12.specs.declared.Group.{Group}
@@ -25,7 +25,7 @@ module _ (cs gs : List ℕ) where
   counting-start = record { within = omega arith; few = omega arith; left = zero-add _ }
 
   module _ (n i : ℕ) (r : Counting cs gs n i) where
-    pub counting-on : (j : ℕ) → Columns cs gs → Ends cs gs i j → Counting cs gs (n + 1) j
+    pub counting-on : (j : ℕ) → Columns cs gs → RunEndsAt cs gs i j → Counting cs gs (n + 1) j
     counting-on j w x = record {
       within = x .within;
       few = omega (arith, r .few, x .behind);

@@ -1,4 +1,4 @@
--- The bytes of a format 12 subtable for a list of pairs (docs/01-rules.md, "Format 12").
+-- The bytes of a format 12 subtable for a list of pairs (docs/RULES.md, "Format 12").
 -- What another format of the same layout would change is `consecutive` and the number 12 alone.
 use Prim.Native.Nat.{ℕ, _+_, _*_, _≤_}
 use mathlib.Core.Path.{_≡_}
@@ -12,7 +12,7 @@ use Rattle.laws.specs.Pieces.{pieces}
 use Rattle.number.specs.Limits.{pairsMax}
 use Rattle.number.specs.Row.{encs}
 use Rattle.format12.specs.declared.Group.{Group}
-use Rattle.format12.specs.declared.Size.{Size}
+use Rattle.format12.specs.declared.Size12.{Size12}
 
 -- code point and glyph both rise by one
 unfoldable pub consecutive : Pair → Pair → Bool
@@ -49,19 +49,19 @@ abbrev pub tableLength : ℕ → ℕ
 tableLength n = 16 + 12 * n
 
 -- OpenType: format and reserved, of 16 bits; length, language and numGroups, of 32
-unfoldable pub header : ℕ → ℕ → ℕ → List ℕ
-header format language n = encs 2 (format ∷ 0 ∷ []) ++ encs 4 (tableLength n ∷ language ∷ n ∷ [])
+unfoldable pub header12 : ℕ → ℕ → ℕ → List ℕ
+header12 format language n = encs 2 (format ∷ 0 ∷ []) ++ encs 4 (tableLength n ∷ language ∷ n ∷ [])
 
-unfoldable pub table : ℕ → ℕ → List Group → List ℕ
-table format language gs = header format language (length gs) ++ encs 4 (fields gs)
+unfoldable pub groupTable : ℕ → ℕ → List Group → List ℕ
+groupTable format language gs = header12 format language (length gs) ++ encs 4 (fields gs)
 
 -- with the source's language, for the listed pairs ps that its subtable maps
 abbrev pub format12 : ℕ → List Pair → List ℕ
-format12 language ps = table 12 language (groups ps)
+format12 language ps = groupTable 12 language (groups ps)
 
 -- how many groups the pairs make, and how many bytes the subtable has
-abbrev pub sizeOf : List Pair → Size
-sizeOf ps = record { groups = length (groups ps); bytes = tableLength (length (groups ps)) }
+abbrev pub sizeOf12 : List Pair → Size12
+sizeOf12 ps = record { groups = length (groups ps); bytes = tableLength (length (groups ps)) }
 
 -- a slice of code points and one of glyphs are the two columns of a list of pairs
 pub record Columns (cs gs : List ℕ) : Type 0 where
@@ -69,6 +69,6 @@ pub record Columns (cs gs : List ℕ) : Type 0 where
   pub few : length cs ≤ pairsMax
 
 -- n is the number of groups that the pairs make, and l bytes have room for their subtable at a place
-pub record Room (ps : List Pair) (n at l : ℕ) : Type 0 where
+pub record GroupsRoom (ps : List Pair) (n at l : ℕ) : Type 0 where
   pub found : n ≡ length (groups ps)
   pub fits : at + tableLength n ≤ l

@@ -2,7 +2,7 @@
 ghost use mathlib.Core.Path.{_≡_};
 ghost use lib.ListN.{length};
 ghost use Rattle.laws.specs.Lists.{pairs};
-ghost use Rattle.format12.specs.Format12.{groups, sizeOf, Columns};
+ghost use Rattle.format12.specs.Format12.{groups, sizeOf12, Columns};
 
 // Code points start to end; the first has this glyph, each next one the next.
 pub struct Group {
@@ -11,7 +11,7 @@ pub struct Group {
     pub glyph: u16,
 }
 
-pub struct Size {
+pub struct Size12 {
     pub groups: usize,
     pub bytes: usize,
 }
@@ -31,12 +31,12 @@ fn count_groups(codes: &[u32], glyphs: &[u16]) -> usize
 }
 
 // How many groups the pairs make, and how long their subtable is.
-pub fn format12_size(codes: &[u32], glyphs: &[u16]) -> Size
+pub fn format12_size(codes: &[u32], glyphs: &[u16]) -> Size12
     requires { ⌜ Columns (now codes) (now glyphs) ⌝ }
-    ensures { λ r. ⌜ r ≡ sizeOf (pairs (now (codes .entry)) (now (glyphs .entry))) ⌝ }
+    ensures { λ r. ⌜ r ≡ sizeOf12 (pairs (now (codes .entry)) (now (glyphs .entry))) ⌝ }
 {
     let groups = count_groups(codes, glyphs);
-    Size {
+    Size12 {
         groups: groups,
         bytes: 16 + 12 * groups,
     }

@@ -1,4 +1,4 @@
--- Flags in blocks of 256, and a row that notes from which block up to which all flags are 1.
+-- Inner: flags in blocks of 256, and a row that notes from which block up to which all flags are 1; no promise names them.
 use Prim.Native.Nat.{ℕ, _-_, _*_, _<_, _≤_}
 use mathlib.Core.Path.{_≡_}
 use mathlib.Core.List.{List}

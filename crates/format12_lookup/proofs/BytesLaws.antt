@@ -16,7 +16,7 @@ use Rattle.number.specs.Limits.{unicodeMax}
 use Rattle.number.proofs.BigEndianLaws.{be-front, be-back}
 use Rattle.number.proofs.RowLaws.{length-encs, be-encs-fits}
 use Rattle.format12.specs.declared.Group.{Group}
-use Rattle.format12.specs.Format12.{consecutive, group, groupOf, grouped, groups, fields, tableLength, header, table, format12}
+use Rattle.format12.specs.Format12.{consecutive, group, groupOf, grouped, groups, fields, tableLength, header12, groupTable, format12}
 use Rattle.format12.proofs.GroupsLaws.{last-joined}
 use Rattle.format12.proofs.TableLaws.{length-header}
 use Rattle.source.specs.Fields.{startCharCode, endCharCode, startGlyphID}
@@ -83,14 +83,14 @@ abbrev pub groupAt : List ℕ → ℕ → ℕ → Group
 groupAt xs at k = group (startCharCode xs at k) (endCharCode xs at k) (startGlyphID xs at k)
 
 module _ (format language : ℕ) (gs : List Group) where
-  entry-at : (j at : ℕ) → at ≡ 16 + 4 * j → getD (fields gs) j 0 < 256 ^ 4 → be 4 (table format language gs) at ≡ getD (fields gs) j 0
-  unfolding table
+  entry-at : (j at : ℕ) → at ≡ 16 + 4 * j → getD (fields gs) j 0 < 256 ^ 4 → be 4 (groupTable format language gs) at ≡ getD (fields gs) j 0
+  unfolding groupTable
   entry-at j at e h =
-      let hd = header format language (length gs) in
+      let hd = header12 format language (length gs) in
       let p : at ≡ length hd + 4 * j = omega (arith, e, length-header format language (length gs)) in
       rw p (be-back 4 hd (encs 4 (fields gs)) (4 * j) ∙ be-encs-fits 4 (fields gs) j h)
 
-  table-group : Fit (fields gs) → (k : ℕ) (d : Group) → k < length gs → groupAt (table format language gs) 0 k ≡ getD gs k d
+  table-group : Fit (fields gs) → (k : ℕ) (d : Group) → k < length gs → groupAt (groupTable format language gs) 0 k ≡ getD gs k d
   table-group f k d h =
       let t = fields-at gs k d h in
       rw (
@@ -105,16 +105,16 @@ format12-group language ps a = table-group 12 language (groups ps) (groups-fit p
 -- ---- the header
 
 module _ (format language n : ℕ) (rest : List ℕ) where
-  pub header-format : format < 65536 → be 2 (header format language n ++ rest) 0 ≡ format
-  unfolding header
+  pub header-format : format < 65536 → be 2 (header12 format language n ++ rest) 0 ≡ format
+  unfolding header12
   header-format h =
       be-front 2 (encs 2 (format ∷ 0 ∷ []) ++ encs 4 (tableLength n ∷ language ∷ n ∷ [])) rest 0 (rw (length-append (encs 2 (format ∷ 0 ∷ [])) (encs 4 (tableLength n ∷ language ∷ n ∷ [])), length-encs 2 (format ∷ 0 ∷ [])) (omega arith))
       ∙ be-front 2 (encs 2 (format ∷ 0 ∷ [])) (encs 4 (tableLength n ∷ language ∷ n ∷ [])) 0 (rw (length-encs 2 (format ∷ 0 ∷ [])) (omega arith))
       ∙ be-encs-fits 2 (format ∷ 0 ∷ []) 0 h
 
   pub header-number : (k at : ℕ) → k < 3 → at ≡ 4 + 4 * k → getD (tableLength n ∷ language ∷ n ∷ []) k 0 < 256 ^ 4
-      → be 4 (header format language n ++ rest) at ≡ getD (tableLength n ∷ language ∷ n ∷ []) k 0
-  unfolding header
+      → be 4 (header12 format language n ++ rest) at ≡ getD (tableLength n ∷ language ∷ n ∷ []) k 0
+  unfolding header12
   header-number k at l e h =
       let ns = tableLength n ∷ language ∷ n ∷ [] in
       let p : at ≡ length (encs 2 (format ∷ 0 ∷ [])) + 4 * k = omega (arith, e, length-encs 2 (format ∷ 0 ∷ [])) in

@@ -11,7 +11,7 @@ use Rattle.source.specs.declared.Kind.the-variants.{Format12}
 use Rattle.source.specs.Kind.{kindAt}
 use Rattle.source.proofs.KindLaws.{gives12, Readable12, lengthOf}
 use Rattle.source.proofs.StandsLaws.{kind-stands}
-use Rattle.format12.specs.Format12.{groups, fields, table, format12}
+use Rattle.format12.specs.Format12.{groups, fields, groupTable, format12}
 use Rattle.format12.proofs.TableLaws.{length-table}
 use Rattle.format12_lookup.specs.Lookup.{Above}
 use Rattle.format12_lookup.proofs.BytesLaws.{groups-few, header-format, header-number}
@@ -25,7 +25,7 @@ module _ (language : ℕ) (ps : List Pair) where
 
   module _ (h : language < 4294967296) (a : Above 0 ps) where
     pub format12-readable : Readable12 T 0 language (length (groups ps)) (length T)
-    unfolding table
+    unfolding groupTable
     format12-readable =
         let n = length (groups ps) in
         let b = encs 4 (fields (groups ps)) in

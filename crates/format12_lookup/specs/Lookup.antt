@@ -1,4 +1,4 @@
--- What is asked of the pairs of a format 12 subtable (docs/01-rules.md, "What is lent").
+-- Inner: what the laws on lookups ask of the pairs of a format 12 subtable (docs/RULES.md, "What is lent"); no promise names it.
 use Prim.Native.Nat.{ℕ, suc, _≤_}
 use mathlib.Core.List.{List, [], _∷_}
 use Rattle.laws.specs.Lists.{Pair}

@@ -1,4 +1,4 @@
--- Which code points a format 12 subtable maps in a font of n glyphs (docs/01-rules.md, "Which code points a subtable maps").
+-- Which code points a format 12 subtable maps in a font of n glyphs (docs/RULES.md, "Which code points a subtable maps").
 -- The subtable stands at `at` in xs.
 use Prim.Native.Nat.{ℕ, _+_, _-_, min}
 use mathlib.Core.List.{List}

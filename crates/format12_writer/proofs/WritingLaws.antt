@@ -6,7 +6,7 @@ use native.Mathlib.Omega.{arith}
 use lib.ListN.{length, getD}
 use lib.Seq.{sets, length-sets}
 use Rattle.laws.specs.Lists.{pairs}
-use Rattle.lists_runs.specs.Runs.{Ends}
+use Rattle.lists_runs.specs.Runs.{RunEndsAt}
 use Rattle.laws.proofs.SetsLaws.{sets-append}
 use Rattle.number.specs.Row.{encs}
 use Rattle.number.proofs.RowLaws.{encs-append}
@@ -36,7 +36,7 @@ module _ (cs gs out₀ : List ℕ) (at : ℕ) where
   writing-start h = record { within = omega arith; same = refl; room = h; left = refl }
 
   module _ (out : List ℕ) (to i : ℕ) (w : Writing cs gs out₀ at out to i) where
-    module _ (j : ℕ) (k : Columns cs gs) (x : Ends cs gs i j) where
+    module _ (j : ℕ) (k : Columns cs gs) (x : RunEndsAt cs gs i j) where
       -- there is room for the run's group
       pub writing-room : to + 12 ≤ length out
       writing-room = omega (arith, w .room, w .same, ap length (ahead-run cs gs k i j x))

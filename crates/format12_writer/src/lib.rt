@@ -4,14 +4,14 @@ ghost use mathlib.Core.Path.{_≡_};
 ghost use Prim.Native.Nat.{_+_, _≤_, _*_};
 ghost use lib.ListN.{length};
 ghost use lib.Seq.{sets};
-ghost use Rattle.format12.specs.Format12.{header, groups, fields, format12, Columns, Room};
+ghost use Rattle.format12.specs.Format12.{header12, groups, fields, format12, Columns, GroupsRoom};
 ghost use mathlib.Core.List.{[], _∷_};
 ghost use Rattle.laws.specs.Lists.{pairs};
 ghost use Rattle.number.specs.Row.{encs};
 
 pub fn write_header(out: &mut [u8], at: usize, language: u32, groups: usize)
     requires { ⌜ (at + 16 ≤ length (now out)) × (groups ≤ 65535) ⌝ }
-    ensures { λ _. ⌜ now (out .exit) ≡ sets (now (out .entry)) at (header 12 language groups) ⌝ }
+    ensures { λ _. ⌜ now (out .exit) ≡ sets (now (out .entry)) at (header12 12 language groups) ⌝ }
 {
     number_writer::put_u16(out, at, 12);
     number_writer::put_u16(out, at + 2, 0);
@@ -65,7 +65,7 @@ pub fn write_format12(
     groups: usize,
 )
     requires { ⌜ Columns (now codes) (now glyphs) ⌝ }
-    requires { ⌜ Room (pairs (now codes) (now glyphs)) groups at (length (now out)) ⌝ }
+    requires { ⌜ GroupsRoom (pairs (now codes) (now glyphs)) groups at (length (now out)) ⌝ }
     ensures { λ _. ⌜ now (out .exit) ≡ sets (now (out .entry)) at (format12 language (pairs (now (codes .entry)) (now (glyphs .entry)))) ⌝ }
 {
     write_header(out, at, language, groups);

@@ -20,11 +20,11 @@ use Rattle.format14_uvs.specs.Checksum.{gathered, checksum}
 use Rattle.format14_uvs.specs.Default.{newDefault}
 use Rattle.format14_uvs.specs.NonDefault.{newNonDefault, badMapping}
 use Rattle.format14_uvs.proofs.TablesLaws.{counts-head, counts-inside}
-use Rattle.format14_ranges.specs.Stream.{Lent}
-use Rattle.format14_mapping.specs.Lent.{Table}
+use Rattle.format14_ranges.specs.Stream.{DefaultLent}
+use Rattle.format14_mapping.specs.Lent.{NonDefaultLent}
 use Rattle.format14.proofs.ShapeLaws.{length-default, length-non-default, tables-apart}
-use Rattle.format14.specs.Selectors.{Given, given, keepsSelector, defaultTable, nonDefaultTable, badRecord}
-use Rattle.format14.specs.ByNumber.{slot, badSlot, tableOffset, sourceTable, Source, Readable, Numbered, Size, Both}
+use Rattle.format14.specs.Selectors.{Job14, job14, keepsSelector, defaultTable, nonDefaultTable, badRecord}
+use Rattle.format14.specs.ByNumber.{slot, badSlot, tableOffset, sourceTable, SourceOffset, Readable, Numbered, SlotLength, BothThere}
 
 -- ---- the size of a record of table t
 
@@ -53,16 +53,16 @@ counts-fits size xs at len off e =
 -- ---- its offset
 
 module _ (xs : List ℕ) (at len : ℕ) (kept : List ℕ) (t : ℕ) (x : ℕ) (b : Bool) (n : Num 3 xs (at + 10 + 11 * (t / 2)) x) (h : b ≡ holds kept x) where
-  pub source-dropped : b ≡ false → Source xs at len kept t 0
+  pub source-dropped : b ≡ false → SourceOffset xs at len kept t 0
   unfolding sourceTable
   source-dropped e = record { is = rw (← n .is, ← h, e); within = omega arith }
 
   module _ (off : ℕ) (d : Bool) (e : b ≡ true) (m : Num 4 xs (at + 10 + 11 * (t / 2) + 3 + 4 * (t % 2)) off) (q : d ≡ counts (4 + t % 2) xs at len off) where
-    pub source-counts : d ≡ true → Source xs at len kept t off
+    pub source-counts : d ≡ true → SourceOffset xs at len kept t off
     unfolding sourceTable tableOffset
     source-counts c = record { is = rw (← n .is, ← h, e, ← m .is, ← q, c); within = omega (arith, counts-fits (4 + t % 2) xs at len off (sym q ∙ c) .1 .0) }
 
-    pub source-uncounted : d ≡ false → Source xs at len kept t 0
+    pub source-uncounted : d ≡ false → SourceOffset xs at len kept t 0
     unfolding sourceTable tableOffset
     source-uncounted c = record { is = rw (← n .is, ← h, e, ← m .is, ← q, c); within = omega arith }
 
@@ -109,14 +109,14 @@ module _ (xs : List ℕ) (at len : ℕ) (kept : List ℕ) (t : ℕ) where
   offset-odd e = ap (be 4 xs) (omega arith)
 
   module _ (map requested : List ℕ) where
-    pub slot-default : (off : ℕ) → Found xs at len kept t off → t % 2 ≡ 0 → slot (given xs at len kept map requested) t ≡ newDefault xs (at + off) kept
+    pub slot-default : (off : ℕ) → Found xs at len kept t off → t % 2 ≡ 0 → slot (job14 xs at len kept map requested) t ≡ newDefault xs (at + off) kept
     unfolding slot keepsSelector defaultTable
     slot-default off f e =
         let same : off ≡ be 4 xs (at + 10 + 11 * (t / 2) + 3) = f .is ∙ offset-even e in
         let counted : counts 4 xs at len off ≡ true = rw e at (f .counted) in
         rw (f .keeps, eq-eqb (t % 2) 0 e, ← same, counted)
 
-    pub slot-non-default : (off : ℕ) → Found xs at len kept t off → t % 2 ≡ 1 → slot (given xs at len kept map requested) t ≡ newNonDefault xs (at + off) kept map requested
+    pub slot-non-default : (off : ℕ) → Found xs at len kept t off → t % 2 ≡ 1 → slot (job14 xs at len kept map requested) t ≡ newNonDefault xs (at + off) kept map requested
     unfolding slot keepsSelector nonDefaultTable
     slot-non-default off f e =
         let same : off ≡ be 4 xs (at + 10 + 11 * (t / 2) + 7) = f .is ∙ offset-odd e in
@@ -124,10 +124,10 @@ module _ (xs : List ℕ) (at len : ℕ) (kept : List ℕ) (t : ℕ) where
         rw (f .keeps, ne-eqb (t % 2) 0 (λ z. omega (arith, e, z)), ← same, counted)
 
     -- a table that does not count gives none
-    slot-uncounted : counts (4 + t % 2) xs at len (tableOffset xs at t) ≡ false → slot (given xs at len kept map requested) t ≡ []
+    slot-uncounted : counts (4 + t % 2) xs at len (tableOffset xs at t) ≡ false → slot (job14 xs at len kept map requested) t ≡ []
     unfolding slot keepsSelector defaultTable nonDefaultTable
     slot-uncounted u =
-        let whole : Type 0 = slot (given xs at len kept map requested) t ≡ [] in
+        let whole : Type 0 = slot (job14 xs at len kept map requested) t ≡ [] in
         by-test whole (holds kept (be 3 xs (at + 10 + 11 * (t / 2))))
         (λ k. by-test whole (eqb (t % 2) 0)
         (λ q.
@@ -140,20 +140,20 @@ module _ (xs : List ℕ) (at len : ℕ) (kept : List ℕ) (t : ℕ) where
         rw (k, q, none)))
         (λ k. rw k)
 
-    slot-dropped : holds kept (be 3 xs (at + 10 + 11 * (t / 2))) ≡ false → slot (given xs at len kept map requested) t ≡ []
+    slot-dropped : holds kept (be 3 xs (at + 10 + 11 * (t / 2))) ≡ false → slot (job14 xs at len kept map requested) t ≡ []
     unfolding slot keepsSelector
     slot-dropped k = rw k
 
-    pub slot-none : (off : ℕ) → off ≡ sourceTable xs at len kept t → off ≡ 0 → slot (given xs at len kept map requested) t ≡ []
+    pub slot-none : (off : ℕ) → off ≡ sourceTable xs at len kept t → off ≡ 0 → slot (job14 xs at len kept map requested) t ≡ []
     slot-none off e z =
         let k = holds kept (be 3 xs (at + 10 + 11 * (t / 2))) in
-        by-test (slot (given xs at len kept map requested) t ≡ []) k
+        by-test (slot (job14 xs at len kept map requested) t ≡ []) k
         (λ p. slot-uncounted (rw p at (source-zero off e z)))
         slot-dropped
 
 -- ---- what the code asks of a table it found, and what it makes of it
 
-module _ (xs : List ℕ) (at len : ℕ) (kept requested : List ℕ) (t off : ℕ) (r : Readable xs at len kept requested) (s : Source xs at len kept t off) where
+module _ (xs : List ℕ) (at len : ℕ) (kept requested : List ℕ) (t off : ℕ) (r : Readable xs at len kept requested) (s : SourceOffset xs at len kept t off) where
   odd-one : (t % 2 ≡ 0 → ⊥) → t % 2 ≡ 1
   odd-one h = omega arith
 
@@ -161,20 +161,20 @@ module _ (xs : List ℕ) (at len : ℕ) (kept requested : List ℕ) (t off : ℕ
     here : Found xs at len kept t off
     here = found xs at len kept t off (s .is) z
 
-    pub lent-default : (flags : List ℕ) → Numbered xs at kept flags t → t % 2 ≡ 0 → Lent xs (at + off) kept flags
+    pub lent-default : (flags : List ℕ) → Numbered xs at kept flags t → t % 2 ≡ 0 → DefaultLent xs (at + off) kept flags
     lent-default flags n e =
         let c : counts 4 xs at len off ≡ true = rw e at (here .counted) in
         record { head = counts-head 4 xs at len off (r .inside) c; inside = counts-inside 4 xs at len off (r .inside) c; rises = r .kept-rises; few = r .kept-few; beside = n .beside }
 
-    pub lent-non-default : (t % 2 ≡ 0 → ⊥) → Table xs (at + off) kept requested
+    pub lent-non-default : (t % 2 ≡ 0 → ⊥) → NonDefaultLent xs (at + off) kept requested
     lent-non-default h =
         let e = odd-one h in
         let c : counts 5 xs at len off ≡ true = rw e at (here .counted) in
         record { head = counts-head 5 xs at len off (r .inside) c; inside = counts-inside 5 xs at len off (r .inside) c; kept-rises = r .kept-rises; requested-rises = r .requested-rises }
 
   module _ (map : List ℕ) where
-    abbrev g : Given
-    g = given xs at len kept map requested
+    abbrev g : Job14
+    g = job14 xs at len kept map requested
 
     none : off ≡ 0 → slot g t ≡ []
     none z = slot-none xs at len kept t map requested off (s .is) z
@@ -185,13 +185,13 @@ module _ (xs : List ℕ) (at len : ℕ) (kept requested : List ℕ) (t off : ℕ
     non-default-is : (off ≡ 0 → ⊥) → (t % 2 ≡ 0 → ⊥) → slot g t ≡ newNonDefault xs (at + off) kept map requested
     non-default-is z h = slot-non-default xs at len kept t map requested off (here z) (odd-one h)
 
-    pub size-none : off ≡ 0 → Size g t 0
+    pub size-none : off ≡ 0 → SlotLength g t 0
     size-none z = record { is = rw (none z); below = omega arith }
 
-    pub size-default : (n : ℕ) → (off ≡ 0 → ⊥) → t % 2 ≡ 0 → n ≡ length (newDefault xs (at + off) kept) → Size g t n
+    pub size-default : (n : ℕ) → (off ≡ 0 → ⊥) → t % 2 ≡ 0 → n ≡ length (newDefault xs (at + off) kept) → SlotLength g t n
     size-default n z e d = record { is = rw (default-is z e) d; below = omega (arith, d, length-default xs (at + off) kept, r .kept-few) }
 
-    pub size-non-default : (n : ℕ) → (off ≡ 0 → ⊥) → (t % 2 ≡ 0 → ⊥) → n ≡ length (newNonDefault xs (at + off) kept map requested) → Size g t n
+    pub size-non-default : (n : ℕ) → (off ≡ 0 → ⊥) → (t % 2 ≡ 0 → ⊥) → n ≡ length (newNonDefault xs (at + off) kept map requested) → SlotLength g t n
     size-non-default n z h d =
         record { is = rw (non-default-is z h) d; below = omega (arith, d, length-non-default xs (at + off) kept map requested, lent-non-default z h .inside, r .small) }
 
@@ -258,10 +258,10 @@ pub ruleset copies = (copy-none, copy-default, copy-non-default)
 -- ---- two tables
 
 -- tables of one sort from one place of the source
-module _ (xs : List ℕ) (at len : ℕ) (kept map requested : List ℕ) (i j p : ℕ) (r : Readable xs at len kept requested) (s : Source xs at len kept i p) (u : Source xs at len kept j p) (e : i % 2 ≡ j % 2) where
-  pub slot-like : slot (given xs at len kept map requested) i ≡ slot (given xs at len kept map requested) j
+module _ (xs : List ℕ) (at len : ℕ) (kept map requested : List ℕ) (i j p : ℕ) (r : Readable xs at len kept requested) (s : SourceOffset xs at len kept i p) (u : SourceOffset xs at len kept j p) (e : i % 2 ≡ j % 2) where
+  pub slot-like : slot (job14 xs at len kept map requested) i ≡ slot (job14 xs at len kept map requested) j
   slot-like =
-      let like : Type 0 = slot (given xs at len kept map requested) i ≡ slot (given xs at len kept map requested) j in
+      let like : Type 0 = slot (job14 xs at len kept map requested) i ≡ slot (job14 xs at len kept map requested) j in
       by-test like (eqb p 0)
       (λ n.
       let z = eqb-true p 0 n in
@@ -276,9 +276,9 @@ module _ (xs : List ℕ) (at len : ℕ) (kept map requested : List ℕ) (i j p :
       let d = eqb-false (i % 2) 0 q in
       non-default-is xs at len kept requested i p r s map z d ∙ sym (non-default-is xs at len kept requested j p r u map z (λ w. d (e ∙ w)))))
 
-  pub bad-like : badSlot (given xs at len kept map requested) i ≡ badSlot (given xs at len kept map requested) j
+  pub bad-like : badSlot (job14 xs at len kept map requested) i ≡ badSlot (job14 xs at len kept map requested) j
   bad-like =
-      let like : Type 0 = badSlot (given xs at len kept map requested) i ≡ badSlot (given xs at len kept map requested) j in
+      let like : Type 0 = badSlot (job14 xs at len kept map requested) i ≡ badSlot (job14 xs at len kept map requested) j in
       by-test like (eqb p 0)
       (λ n.
       let z = eqb-true p 0 n in
@@ -294,17 +294,17 @@ module _ (xs : List ℕ) (at len : ℕ) (kept map requested : List ℕ) (i j p :
       sym (bad-non-default xs at len kept requested i p r s map (badMapping xs (at + p) kept map requested) z d refl)
       ∙ bad-non-default xs at len kept requested j p r u map (badMapping xs (at + p) kept map requested) z (λ w. d (e ∙ w)) refl))
 
-module _ (xs : List ℕ) (at len : ℕ) (kept map requested : List ℕ) (t off : ℕ) (s : Source xs at len kept t off) where
+module _ (xs : List ℕ) (at len : ℕ) (kept map requested : List ℕ) (t off : ℕ) (s : SourceOffset xs at len kept t off) where
   -- a table that is there has its source
-  pub source-there : 0 < length (slot (given xs at len kept map requested) t) → off ≡ 0 → ⊥
+  pub source-there : 0 < length (slot (job14 xs at len kept map requested) t) → off ≡ 0 → ⊥
   source-there h z =
       let none = slot-none xs at len kept t map requested off (s .is) z in
       let short = rw none at h in
       omega (arith, short)
 
 module _ (xs : List ℕ) (at len : ℕ) (kept map requested : List ℕ) (r : Readable xs at len kept requested) where
-  abbrev h : Given
-  h = given xs at len kept map requested
+  abbrev h : Job14
+  h = job14 xs at len kept map requested
 
   there-found : (t : ℕ) → 0 < length (slot h t) → Found xs at len kept t (sourceTable xs at len kept t)
   there-found t l =
@@ -325,7 +325,7 @@ module _ (xs : List ℕ) (at len : ℕ) (kept map requested : List ℕ) (r : Rea
       tables-apart xs (at + p) (at + q) kept map requested (omega (arith, r .kept-few)) (omega (arith, counts-inside 5 xs at len q (r .inside) c, r .small)) (rw first at a) (sym first ∙ same ∙ second)
 
   -- tables of unlike sort are not equal
-  pub same-unlike : (i j : ℕ) → Both h i j → (i % 2 ≡ j % 2 → ⊥) → false ≡ eqList (slot h i) (slot h j)
+  pub same-unlike : (i j : ℕ) → BothThere h i j → (i % 2 ≡ j % 2 → ⊥) → false ≡ eqList (slot h i) (slot h j)
   same-unlike i j b n =
       by-test (false ≡ eqList (slot h i) (slot h j)) (eqList (slot h i) (slot h j))
       (λ q.
@@ -336,37 +336,37 @@ module _ (xs : List ℕ) (at len : ℕ) (kept map requested : List ℕ) (r : Rea
       (λ q. sym q)
 
 module _ (xs : List ℕ) (at len : ℕ) (kept map requested : List ℕ) (i j p q : ℕ) (r : Readable xs at len kept requested)
-    (b : Both (given xs at len kept map requested) i j) (s : Source xs at len kept i p) (u : Source xs at len kept j q) where
+    (b : BothThere (job14 xs at len kept map requested) i j) (s : SourceOffset xs at len kept i p) (u : SourceOffset xs at len kept j q) where
   one-there : p ≡ 0 → ⊥
   one-there = source-there xs at len kept map requested i p s (b .one)
 
   other-there : q ≡ 0 → ⊥
   other-there = source-there xs at len kept map requested j q u (b .other)
 
-  pub one-default : (first : List ℕ) → Numbered xs at kept first i → i % 2 ≡ 0 → Lent xs (at + p) kept first
+  pub one-default : (first : List ℕ) → Numbered xs at kept first i → i % 2 ≡ 0 → DefaultLent xs (at + p) kept first
   one-default first m z = lent-default xs at len kept requested i p r s one-there first m z
 
-  pub other-default : (second : List ℕ) → Numbered xs at kept second j → i % 2 ≡ j % 2 → i % 2 ≡ 0 → Lent xs (at + q) kept second
+  pub other-default : (second : List ℕ) → Numbered xs at kept second j → i % 2 ≡ j % 2 → i % 2 ≡ 0 → DefaultLent xs (at + q) kept second
   other-default second n e z = lent-default xs at len kept requested j q r u other-there second n (omega (arith, e, z))
 
-  pub one-non-default : (i % 2 ≡ 0 → ⊥) → Table xs (at + p) kept requested
+  pub one-non-default : (i % 2 ≡ 0 → ⊥) → NonDefaultLent xs (at + p) kept requested
   one-non-default z = lent-non-default xs at len kept requested i p r s one-there z
 
-  pub other-non-default : i % 2 ≡ j % 2 → (i % 2 ≡ 0 → ⊥) → Table xs (at + q) kept requested
+  pub other-non-default : i % 2 ≡ j % 2 → (i % 2 ≡ 0 → ⊥) → NonDefaultLent xs (at + q) kept requested
   other-non-default e z = lent-non-default xs at len kept requested j q r u other-there (λ n. z (e ∙ n))
 
   -- tables of one sort from one place
-  pub same-place : i % 2 ≡ j % 2 → p ≡ q → true ≡ eqList (slot (given xs at len kept map requested) i) (slot (given xs at len kept map requested) j)
-  same-place e d = rw (slot-like xs at len kept map requested i j q r (rw d at s) u e) (sym (eq-refl (slot (given xs at len kept map requested) j)))
+  pub same-place : i % 2 ≡ j % 2 → p ≡ q → true ≡ eqList (slot (job14 xs at len kept map requested) i) (slot (job14 xs at len kept map requested) j)
+  same-place e d = rw (slot-like xs at len kept map requested i j q r (rw d at s) u e) (sym (eq-refl (slot (job14 xs at len kept map requested) j)))
 
   module _ (c : Bool) where
     pub same-default-is : i % 2 ≡ j % 2 → i % 2 ≡ 0 → c ≡ eqList (newDefault xs (at + p) kept) (newDefault xs (at + q) kept)
-        → c ≡ eqList (slot (given xs at len kept map requested) i) (slot (given xs at len kept map requested) j)
+        → c ≡ eqList (slot (job14 xs at len kept map requested) i) (slot (job14 xs at len kept map requested) j)
     same-default-is e z h =
         rw (default-is xs at len kept requested i p r s map one-there z, default-is xs at len kept requested j q r u map other-there (sym e ∙ z)) h
 
     pub same-non-default-is : i % 2 ≡ j % 2 → (i % 2 ≡ 0 → ⊥) → c ≡ eqList (newNonDefault xs (at + p) kept map requested) (newNonDefault xs (at + q) kept map requested)
-        → c ≡ eqList (slot (given xs at len kept map requested) i) (slot (given xs at len kept map requested) j)
+        → c ≡ eqList (slot (job14 xs at len kept map requested) i) (slot (job14 xs at len kept map requested) j)
     same-non-default-is e z h =
         rw (non-default-is xs at len kept requested i p r s map one-there z, non-default-is xs at len kept requested j q r u map other-there (λ n. z (e ∙ n))) h
 

@@ -20,7 +20,7 @@ use Rattle.lists_marks.specs.Marks.{between, holds}
 use Rattle.number.specs.BigEndian.{be, enc}
 use Rattle.number.proofs.BigEndianLaws.{be-enc-fits, length-enc}
 use Rattle.number.proofs.StandsLaws.{be-stands}
-use Rattle.format14_uvs.specs.Tables.{table}
+use Rattle.format14_uvs.specs.Tables.{uvsTable}
 use Rattle.format14_uvs.proofs.ReadLaws.{each-select, stands-front, stands-back, stands-whole, table-back}
 use Rattle.format14_uvs.specs.Default.{range, ranges, rangeBytes, covers, coveredBy, coveredPoints, follow, longest, longRanges, singlePoints, inRanges, newRecords, newDefault}
 use Rattle.format14_ranges.proofs.StreamLaws.{range-size, begun, begun-start, begun-full, begun-end, begun-gap, begun-on}
@@ -171,13 +171,13 @@ pub none-covers : (c : ℕ) → coveredBy [] 0 c ≡ false
 unfolding anyOf
 none-covers c = rw (none-read 0)
 
-back : (ys : List ℕ) (q : ℕ) (rs : List Pair) → Each Fits rs → length rs < 256 ^ 4 → Stands ys q (table rangeBytes rs) → 0 < length (table rangeBytes rs) → ranges ys q ≡ rs
+back : (ys : List ℕ) (q : ℕ) (rs : List Pair) → Each Fits rs → length rs < 256 ^ 4 → Stands ys q (uvsTable rangeBytes rs) → 0 < length (uvsTable rangeBytes rs) → ranges ys q ≡ rs
 back ys q rs f l st z = table-back rangeBytes 4 range-size range (λ a. a) Fits read-range ys q rs f l st z ∙ map-same rs
 
-own-back : (rs : List Pair) → Each Fits rs → length rs < 256 ^ 4 → ranges (table rangeBytes rs) 0 ≡ rs
-unfolding table
+own-back : (rs : List Pair) → Each Fits rs → length rs < 256 ^ 4 → ranges (uvsTable rangeBytes rs) 0 ≡ rs
+unfolding uvsTable
 own-back [] f l = none-read 0
-own-back (a ∷ rs) f l = back (table rangeBytes (a ∷ rs)) 0 (a ∷ rs) f l (stands-whole (table rangeBytes (a ∷ rs))) (rw (length-append, length-enc) (omega arith))
+own-back (a ∷ rs) f l = back (uvsTable rangeBytes (a ∷ rs)) 0 (a ∷ rs) f l (stands-whole (uvsTable rangeBytes (a ∷ rs))) (rw (length-append, length-enc) (omega arith))
 
 -- the kept points are of three bytes, and few
 module _ (xs : List ℕ) (p : ℕ) (kept : List ℕ) (low : (i : ℕ) → getD kept i 0 < 256 ^ 3) (few : length kept < 256 ^ 4) where

@@ -25,9 +25,9 @@ use Rattle.format14_uvs.specs.Tables.{countsDefault}
 use Rattle.format14_uvs.specs.Default.{coveredBy, newDefault}
 use Rattle.format14_uvs.proofs.ReadLaws.{each-row, each-select}
 use Rattle.format14.proofs.CoversLaws.{none-covers, stands-covers, bytes-cover}
-use Rattle.format14.specs.Selectors.{Given, selectorRecords, varSelector, defaultOffset, keepsSelector, defaultTable, nonDefaultTable, keptRecords, there, one}
+use Rattle.format14.specs.Selectors.{Job14, selectorRecords, selectorOf, defaultOffset, keepsSelector, defaultTable, nonDefaultTable, keptRecords, there, one}
 use Rattle.format14.proofs.ShapeLaws.{default-shape}
-use Rattle.format14.specs.Format14.{Row, rowOf, rowsOf, rows, used, tables, offsetOf, lengthOf, format14}
+use Rattle.format14.specs.Format14.{Row, rowOf, rowsOf, rows, used, tables, uvsOffset, lengthOf14, format14}
 use Rattle.format14.specs.Variants.{recordCovers, defaults}
 use Rattle.format14.proofs.OffsetsLaws.{leads, offset-none, offset-fits, counts-here, counts-none}
 use Rattle.format14.proofs.SlotsLaws.{there-some, nil-eq}
@@ -57,7 +57,7 @@ pub record Plain (r : Row) : Type 0 where
   pub shape : 0 < length (r .defaultUVS) → length (r .defaultUVS) ≡ 4 + 4 * be 4 (r .defaultUVS) 0
   pub reads : (ys : List ℕ) (q : ℕ) → Stands ys q (r .defaultUVS) → 0 < length (r .defaultUVS) → (c : ℕ) → coveredBy ys q c ≡ coveredBy (r .defaultUVS) 0 c
 
-module _ (rs : List Row) (ys : List ℕ) (at : ℕ) (st : Stands ys at (format14 rs)) (small : lengthOf rs < 256 ^ 4) where
+module _ (rs : List Row) (ys : List ℕ) (at : ℕ) (st : Stands ys at (format14 rs)) (small : lengthOf14 rs < 256 ^ 4) where
   module _ (us : List Row) (r : Row) (vs : List Row) (e : rs ≡ us ++ (r ∷ vs)) where
     abbrev t : List ℕ
     t = r .defaultUVS
@@ -70,33 +70,33 @@ module _ (rs : List Row) (ys : List ℕ) (at : ℕ) (st : Stands ys at (format14
         on [] = rw (there-some t z) (among-here t t (one (r .nonDefaultUVS) ++ tables vs) (eq-refl t))
         on (u ∷ us) = among-right t (one (u .defaultUVS)) (one (u .nonDefaultUVS) ++ tables (us ++ (r ∷ vs))) (among-right t (one (u .nonDefaultUVS)) (tables (us ++ (r ∷ vs))) (on us))
 
-    read-offset : be 4 ys (at + 10 + 11 * length us + 3) ≡ offsetOf rs t
+    read-offset : be 4 ys (at + 10 + 11 * length us + 3) ≡ uvsOffset rs t
     read-offset =
         let a = enc 3 (r .selector) in
-        let b = enc 4 (offsetOf rs t) in
-        let d = enc 4 (offsetOf rs (r .nonDefaultUVS)) in
+        let b = enc 4 (uvsOffset rs t) in
+        let d = enc 4 (uvsOffset rs (r .nonDefaultUVS)) in
         let three : length a + 0 ≡ 3 = rw (length-enc 3 (r .selector)) in
-        let four = length-enc 4 (offsetOf rs t) in
+        let four = length-enc 4 (uvsOffset rs t) in
         be-stands (row-here rs ys at st small us r vs e) 4 3 (at + 10 + 11 * length us + 3) (omega arith) (rw (row-size rs r) (omega arith))
         ∙ rw three at (be-back 4 a (b ++ d) 0)
         ∙ be-front 4 b d 0 (omega (arith, four))
-        ∙ be-enc-fits 4 (offsetOf rs t) (offset-fits rs t among-row small)
+        ∙ be-enc-fits 4 (uvsOffset rs t) (offset-fits rs t among-row small)
 
-    read-covers : Plain r → (c : ℕ) → recordCovers ys at (lengthOf rs) c (length us) ≡ coveredBy t 0 c
+    read-covers : Plain r → (c : ℕ) → recordCovers ys at (lengthOf14 rs) c (length us) ≡ coveredBy t 0 c
     unfolding recordCovers
     read-covers g c =
-        let o = offsetOf rs t in
-        rw read-offset (by-leb (both (countsDefault ys at (lengthOf rs) o) (coveredBy ys (at + o) c) ≡ coveredBy t 0 c) 1 (length t)
+        let o = uvsOffset rs t in
+        rw read-offset (by-leb (both (countsDefault ys at (lengthOf14 rs) o) (coveredBy ys (at + o) c) ≡ coveredBy t 0 c) 1 (length t)
         (λ h.
         let here = stands-in at o st (leads rs t among-row h) in
         rw (counts-here rs t among-row ys at st 4 h (g .shape h)) (g .reads ys (at + o) here h c))
         (λ h.
         let none : length t ≡ 0 = omega arith in
-        rw (offset-none rs t none, counts-none 4 ys at (lengthOf rs), nil-eq t none) (sym (none-covers c))))
+        rw (offset-none rs t none, counts-none 4 ys at (lengthOf14 rs), nil-eq t none) (sym (none-covers c))))
 
-  rows-read : Each Plain rs → (v c : ℕ) → defaults ys at (lengthOf rs) v c ≡ anyOf (λ r. coveredBy (r .defaultUVS) 0 c) (select (λ r. eqb (r .selector) v) rs)
+  rows-read : Each Plain rs → (v c : ℕ) → defaults ys at (lengthOf14 rs) v c ≡ anyOf (λ r. coveredBy (r .defaultUVS) 0 c) (select (λ r. eqb (r .selector) v) rs)
   rows-read plain v c =
-      rw (read-count rs ys at st small) (any-place (recordCovers ys at (lengthOf rs) c) (λ k. eqb (be 3 ys (at + 10 + 11 * k)) v)
+      rw (read-count rs ys at st small) (any-place (recordCovers ys at (lengthOf14 rs) c) (λ k. eqb (be 3 ys (at + 10 + 11 * k)) v)
       (λ r. coveredBy (r .defaultUVS) 0 c) (λ r. eqb (r .selector) v) [] rs
       (λ us r vs e.
       let g = each-right Plain us (r ∷ vs) (rw e at plain) .0 in
@@ -104,12 +104,12 @@ module _ (rs : List Row) (ys : List ℕ) (at : ℕ) (st : Stands ys at (format14
 
 -- ---- the rows of the source's records
 
-module _ (g : Given) (v c : ℕ) where
+module _ (g : Job14) (v c : ℕ) where
   abbrev given : ℕ → Bool
   given k = coveredBy (defaultTable g k) 0 c
 
   abbrev selected : ℕ → Bool
-  selected k = eqb (varSelector g k) v
+  selected k = eqb (selectorOf g k) v
 
   abbrev inRows : List Row → Bool
   inRows rs = anyOf (λ r. coveredBy (r .defaultUVS) 0 c) (select (λ r. eqb (r .selector) v) rs)
@@ -171,7 +171,7 @@ any-same f h e [] = refl
 any-same f h e (k ∷ ks) = rw (e k, any-same f h e ks)
 
 -- the source is bytes, and the kept points are of three bytes and few
-module _ (g : Given) (bytes : Bytes (g .source)) (low : (i : ℕ) → getD (g .kept) i 0 < 256 ^ 3) (few : length (g .kept) < 256 ^ 4) where
+module _ (g : Job14) (bytes : Bytes (g .source)) (low : (i : ℕ) → getD (g .kept) i 0 < 256 ^ 3) (few : length (g .kept) < 256 ^ 4) where
   abbrev place : ℕ → ℕ
   place k = g .start + defaultOffset g k
 
@@ -207,10 +207,10 @@ module _ (g : Given) (bytes : Bytes (g .source)) (low : (i : ℕ) → getD (g .k
 
   -- ---- the new subtable, wherever it stands
 
-  module _ (ys : List ℕ) (at : ℕ) (st : Stands ys at (format14 (rows g))) (fits : lengthOf (rows g) < 256 ^ 4) (v c : ℕ) where
+  module _ (ys : List ℕ) (at : ℕ) (st : Stands ys at (format14 (rows g))) (fits : lengthOf14 (rows g) < 256 ^ 4) (v c : ℕ) where
     -- with a kept selector, a code point is covered exactly where it is kept and the source's subtable covers it: none is lost, none is won
     pub subtable-covers : holds (g .kept) v ≡ true
-        → defaults ys at (lengthOf (rows g)) v c ≡ both (holds (g .kept) c) (defaults (g .source) (g .start) (g .size) v c)
+        → defaults ys at (lengthOf14 (rows g)) v c ≡ both (holds (g .kept) c) (defaults (g .source) (g .start) (g .size) v c)
     subtable-covers h =
         let ks = select (selected g v c) (each (λ i. i) (selectorRecords g) 0) in
         let f = recordCovers (g .source) (g .start) (g .size) c in
@@ -220,5 +220,5 @@ module _ (g : Given) (bytes : Bytes (g .source)) (low : (i : ℕ) → getD (g .k
         ∙ any-both (holds (g .kept) c) f ks
 
     -- with any other selector, nowhere
-    pub subtable-uncovers : holds (g .kept) v ≡ false → defaults ys at (lengthOf (rows g)) v c ≡ false
+    pub subtable-uncovers : holds (g .kept) v ≡ false → defaults ys at (lengthOf14 (rows g)) v c ≡ false
     subtable-uncovers h = rows-read (rows g) ys at st fits (all-plain (selectorRecords g) 0) v c ∙ dropped-rows g v c h (selectorRecords g) 0

@@ -6,7 +6,7 @@ use Rattle.laws.specs.Pieces.{concat}
 use Rattle.laws.specs.Select.{anyOf, flat, eqList}
 use Rattle.laws.specs.Lasts.{among, lasts, before}
 use Rattle.number.specs.BigEndian.{enc}
-use Rattle.format14.specs.Format14.{tables, offsetOf, format14}
+use Rattle.format14.specs.Format14.{tables, uvsOffset, format14}
 
 -- a default table and two non-default tables
 abbrev A : List ℕ
@@ -27,10 +27,10 @@ pub shared : format14 (record { selector = 0xFE00; defaultUVS = A; nonDefaultUVS
     ≡ 0 ∷ 14 ∷ 0 ∷ 0 ∷ 0 ∷ 58 ∷ 0 ∷ 0 ∷ 0 ∷ 2
     ∷ 0 ∷ 0xFE ∷ 0 ∷ 0 ∷ 0 ∷ 0 ∷ 41 ∷ 0 ∷ 0 ∷ 0 ∷ 32
     ∷ 0 ∷ 0xFE ∷ 1 ∷ 0 ∷ 0 ∷ 0 ∷ 41 ∷ 0 ∷ 0 ∷ 0 ∷ 49 ∷ B ++ A ++ C
-unfolding format14 enc flat tables offsetOf concat lasts before among anyOf eqList
+unfolding format14 enc flat tables uvsOffset concat lasts before among anyOf eqList
 shared = refl
 
 pub missing : format14 (record { selector = 0xFE00; defaultUVS = []; nonDefaultUVS = B } ∷ [])
     ≡ 0 ∷ 14 ∷ 0 ∷ 0 ∷ 0 ∷ 30 ∷ 0 ∷ 0 ∷ 0 ∷ 1 ∷ 0 ∷ 0xFE ∷ 0 ∷ 0 ∷ 0 ∷ 0 ∷ 0 ∷ 0 ∷ 0 ∷ 0 ∷ 21 ∷ B
-unfolding format14 enc flat tables offsetOf concat lasts before among anyOf eqList
+unfolding format14 enc flat tables uvsOffset concat lasts before among anyOf eqList
 missing = refl

@@ -20,7 +20,7 @@ use Rattle.number.specs.BigEndian.{be, enc, Bytes}
 use Rattle.number.proofs.BigEndianLaws.{be-lt, be-enc-fits, length-enc}
 use Rattle.number.proofs.StandsLaws.{be-stands}
 use Rattle.number.specs.Limits.{absent}
-use Rattle.format14_uvs.specs.Tables.{table}
+use Rattle.format14_uvs.specs.Tables.{uvsTable}
 use Rattle.format14_uvs.proofs.ReadLaws.{each-row, each-select, stands-front, stands-back, stands-whole, table-back}
 use Rattle.format14_uvs.specs.NonDefault.{mapping, mappingAt, mappings, keepsMapping, keptMappings, mappingBytes, newNonDefault, missing, badMapping}
 use Rattle.format14.specs.Gives.{glyphsFor, stayingGlyphs, newGlyph, renumbered, Glyphs}
@@ -48,14 +48,14 @@ module _ (glyphs : List ℕ) (small : Glyphs glyphs) where
       (be-stands (stands-back c g (at + 3) (omega (arith, three)) st) 2 0 (at + 3) (omega arith) (omega (arith, two)) ∙ be-enc-fits 2 (newGlyph glyphs (m .1)) (small (m .1)))
 
   -- a table that stands in other bytes, and by itself
-  back : (ys : List ℕ) (q : ℕ) (ms : List Pair) → Each Fits ms → length ms < 256 ^ 4 → Stands ys q (table (mappingBytes glyphs) ms) → 0 < length (table (mappingBytes glyphs) ms)
+  back : (ys : List ℕ) (q : ℕ) (ms : List Pair) → Each Fits ms → length ms < 256 ^ 4 → Stands ys q (uvsTable (mappingBytes glyphs) ms) → 0 < length (uvsTable (mappingBytes glyphs) ms)
       → mappings ys q ≡ map (renumbered glyphs) ms
   back = table-back (mappingBytes glyphs) 5 (mapping-size glyphs) mapping (renumbered glyphs) Fits read-mapping
 
-  own-back : (ms : List Pair) → Each Fits ms → length ms < 256 ^ 4 → mappings (table (mappingBytes glyphs) ms) 0 ≡ map (renumbered glyphs) ms
-  unfolding table
+  own-back : (ms : List Pair) → Each Fits ms → length ms < 256 ^ 4 → mappings (uvsTable (mappingBytes glyphs) ms) 0 ≡ map (renumbered glyphs) ms
+  unfolding uvsTable
   own-back [] f l = none-read 0
-  own-back (m ∷ ms) f l = back (table (mappingBytes glyphs) (m ∷ ms)) 0 (m ∷ ms) f l (stands-whole (table (mappingBytes glyphs) (m ∷ ms))) (rw (length-append, length-enc) (omega arith))
+  own-back (m ∷ ms) f l = back (uvsTable (mappingBytes glyphs) (m ∷ ms)) 0 (m ∷ ms) f l (stands-whole (uvsTable (mappingBytes glyphs) (m ∷ ms))) (rw (length-append, length-enc) (omega arith))
 
 -- ---- which glyphs a code point is given
 

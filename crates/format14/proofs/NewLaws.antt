@@ -14,7 +14,7 @@ use Rattle.format14_uvs.specs.Checksum.{mixed, checksum}
 use Rattle.format14_uvs.specs.Default.{follow, longest, longRanges, singlePoints, inRanges, coveredBy, coveredPoints, rangeBytes, newRecords, newDefault}
 use Rattle.format14_uvs.proofs.ChecksumLaws.{checksum-table}
 use Rattle.format14_uvs.proofs.TablesLaws.{size-none, size-some, write-none, write-room, write-some}
-use Rattle.format14_ranges.specs.Stream.{Lent, Count, records, mostOf}
+use Rattle.format14_ranges.specs.Stream.{DefaultLent, RangeCount, records, mostOf}
 use Rattle.format14.proofs.CoverLaws.{points-covered}
 use Rattle.format14_ranges.proofs.StreamLaws.{range-size}
 
@@ -28,7 +28,7 @@ longest-most : (t : Bool) (ps : List ℕ) → longest (pick t 255 0) 0 ps ≡ pi
 longest-most true ps = refl
 longest-most false ps = longest-single ps
 
-module _ (xs : List ℕ) (p : ℕ) (ks fs₀ fs : List ℕ) (most : ℕ) (h : Lent xs p ks fs₀)
+module _ (xs : List ℕ) (p : ℕ) (ks fs₀ fs : List ℕ) (most : ℕ) (h : DefaultLent xs p ks fs₀)
     (m : most ≡ mostOf (be 4 xs p) ks) (e : fs ≡ sets fs₀ 0 (flagged (coveredBy xs p) ks)) where
   pub records-new : records most ks fs 0 ≡ newRecords xs p ks
   unfolding mostOf
@@ -38,7 +38,7 @@ module _ (xs : List ℕ) (p : ℕ) (ks fs₀ fs : List ℕ) (most : ℕ) (h : Le
   unfolding newDefault
   sum-new sum d = d ∙ rw records-new (sym (checksum-table 4 rangeBytes (newRecords xs p ks)))
 
-  module _ (k : ℕ) (c : Count most ks fs k) where
+  module _ (k : ℕ) (c : RangeCount most ks fs k) where
     count-new : k ≡ length (newRecords xs p ks)
     count-new = c .is ∙ ap (λ (l : List Pair). length l) records-new
 

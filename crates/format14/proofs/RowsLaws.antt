@@ -14,11 +14,11 @@ use Rattle.laws.proofs.ChoiceLaws.{by-leb, both-left, by-test}
 use Rattle.laws.proofs.FlatLaws.{flat-map, flat-select}
 use Rattle.laws.proofs.LengthLaws.{length-map}
 use Rattle.laws.proofs.EitherLaws.{neither-left, neither-right}
-use Rattle.format14.specs.Format14.{Row, rowOf, rowsOf, rows, used, tables, written, offsetOf, rowBytes, lengthOf}
-use Rattle.format14.specs.Ends.{from, Written, Ends}
-use Rattle.format14.specs.Selectors.{Given, keepsSelector, defaultTable, nonDefaultTable, selectorRecords, there, one}
+use Rattle.format14.specs.Format14.{Row, rowOf, rowsOf, rows, used, tables, writtenTables, uvsOffset, rowBytes, lengthOf14}
+use Rattle.format14.specs.Ends.{from, writtenFrom, Ends}
+use Rattle.format14.specs.Selectors.{Job14, keepsSelector, defaultTable, nonDefaultTable, selectorRecords, there, one}
 use Rattle.format14.specs.ByNumber.{slot}
-use Rattle.format14.specs.SelectorRecords.{usedAt, usedRecords, offsetFor, recordBytes, recordAt}
+use Rattle.format14.specs.SelectorRecords.{usedAt, usedRecords, offsetFor, selectorBytes, recordAt}
 use Rattle.format14.proofs.SlotsLaws.{there-some, there-none, behind-missing, behind-there, before-there}
 
 -- a row with neither table has none to give
@@ -29,7 +29,7 @@ tables-used r rs =
     (λ e. ap (λ u. tables (pick u (r ∷ rs) rs)) e)
     (λ e. ap (λ u. tables (pick u (r ∷ rs) rs)) e ∙ rw (neither-left (there (r .defaultUVS)) (there (r .nonDefaultUVS)) e, neither-right (there (r .defaultUVS)) (there (r .nonDefaultUVS)) e))
 
-module _ (g : Given) where
+module _ (g : Job14) where
   pub slot-even : (k : ℕ) → slot g (2 * k) ≡ pick (keepsSelector g k) (defaultTable g k) []
   unfolding slot
   slot-even k =
@@ -98,7 +98,7 @@ module _ (g : Given) where
 
   -- ---- the whole subtable
 
-  pub written-rows : written (rows g) ≡ Written (slot g) (2 * selectorRecords g) 0
+  pub written-rows : writtenTables (rows g) ≡ writtenFrom (slot g) (2 * selectorRecords g) 0
   written-rows =
       let z : 2 * selectorRecords g - 0 ≡ 2 * selectorRecords g = omega arith in
       rw z (ap lasts (tables-rows (selectorRecords g) 0))
@@ -110,30 +110,30 @@ module _ (g : Given) where
     pub length-rows : length (usedRecords ends (selectorRecords g)) ≡ length (rows g)
     length-rows = sym (length-map (rowOf g) (usedRecords ends (selectorRecords g))) ∙ ap length rows-are
 
-    offset-slot : (t : ℕ) → t < 2 * selectorRecords g → offsetFor (lengthOf (rows g)) (getD ends t 0) ≡ offsetOf (rows g) (slot g t)
-    unfolding offsetFor offsetOf
+    offset-slot : (t : ℕ) → t < 2 * selectorRecords g → offsetFor (lengthOf14 (rows g)) (getD ends t 0) ≡ uvsOffset (rows g) (slot g t)
+    unfolding offsetFor uvsOffset
     offset-slot t l =
         let m = 2 * selectorRecords g in
-        by-leb (offsetFor (lengthOf (rows g)) (getD ends t 0) ≡ offsetOf (rows g) (slot g t)) 1 (length (slot g t))
+        by-leb (offsetFor (lengthOf14 (rows g)) (getD ends t 0) ≡ uvsOffset (rows g) (slot g t)) 1 (length (slot g t))
         (λ h.
         let far = behind-there (slot g) m t l in
         let sum = before-there (slot g) m t l h in
-        rw (there-some (slot g t) h, e .each t l, written-rows, ne-eqb (behind (slot g t) (Written (slot g) m 0)) 0 (λ d. omega arith)) (omega arith))
+        rw (there-some (slot g t) h, e .each t l, written-rows, ne-eqb (behind (slot g t) (writtenFrom (slot g) m 0)) 0 (λ d. omega arith)) (omega arith))
         (λ h.
         let none : length (slot g t) ≡ 0 = omega arith in
-        rw (there-none (slot g t) none, e .each t l, eq-eqb (behind (slot g t) (Written (slot g) m 0)) 0 (behind-missing (slot g) m t none)))
+        rw (there-none (slot g t) none, e .each t l, eq-eqb (behind (slot g t) (writtenFrom (slot g) m 0)) 0 (behind-missing (slot g) m t none)))
 
     row-bytes : (k : ℕ) → k < selectorRecords g → usedAt ends k ≡ true
-        → recordAt (g .source) (g .start) (lengthOf (rows g)) ends k ≡ rowBytes (rows g) (rowOf g k)
-    unfolding recordAt recordBytes
+        → recordAt (g .source) (g .start) (lengthOf14 (rows g)) ends k ≡ rowBytes (rows g) (rowOf g k)
+    unfolding recordAt selectorBytes
     row-bytes k l u =
         let keeps = both-left (keepsSelector g k) (used (rowOf g k)) (sym (used-at (selectorRecords g) ends e k l) ∙ u) in
         let first = slot-even k in
         let second = slot-odd k in
         rw (offset-slot (2 * k) (omega arith), offset-slot (2 * k + 1) (omega arith), first, second, keeps)
 
-    pub flat-rows : flat (recordAt (g .source) (g .start) (lengthOf (rows g)) ends) (usedRecords ends (selectorRecords g)) ≡ flat (rowBytes (rows g)) (rows g)
+    pub flat-rows : flat (recordAt (g .source) (g .start) (lengthOf14 (rows g)) ends) (usedRecords ends (selectorRecords g)) ≡ flat (rowBytes (rows g)) (rows g)
     flat-rows =
-        flat-select (recordAt (g .source) (g .start) (lengthOf (rows g)) ends) (λ k. rowBytes (rows g) (rowOf g k)) (usedAt ends) (selectorRecords g) 0 (λ k a b u. row-bytes k (omega arith) u)
+        flat-select (recordAt (g .source) (g .start) (lengthOf14 (rows g)) ends) (λ k. rowBytes (rows g) (rowOf g k)) (usedAt ends) (selectorRecords g) 0 (λ k a b u. row-bytes k (omega arith) u)
         ∙ sym (flat-map (rowBytes (rows g)) (rowOf g) (usedRecords ends (selectorRecords g)))
         ∙ ap (flat (rowBytes (rows g))) rows-are

@@ -14,7 +14,7 @@ use Rattle.laws.proofs.SelectLaws.{Copying, copying-start, copying-room, copyin
 use Rattle.laws.proofs.SetsLaws.{sets-append}
 use Rattle.number.specs.BigEndian.{be, enc, put, Num}
 use Rattle.number.proofs.BigEndianLaws.{length-enc}
-use Rattle.format14.specs.SelectorRecords.{usedAt, usedRecords, offsetFor, recordBytes, recordAt, header14, Distances, Far}
+use Rattle.format14.specs.SelectorRecords.{usedAt, usedRecords, offsetFor, selectorBytes, recordAt, header14With, Distances, Far}
 
 -- ---- used
 
@@ -70,23 +70,23 @@ three a b c out mid two fin i x y z e₁ e₂ e₃ =
     )
 
 module _ (out mid two fin : List ℕ) (i : ℕ) where
-  pub record-is : (x y z : ℕ) → mid ≡ put 3 out i x → two ≡ put 4 mid (i + 3) y → fin ≡ put 4 two (i + 7) z → fin ≡ sets out i (recordBytes x y z)
-  unfolding recordBytes
+  pub record-is : (x y z : ℕ) → mid ≡ put 3 out i x → two ≡ put 4 mid (i + 3) y → fin ≡ put 4 two (i + 7) z → fin ≡ sets out i (selectorBytes x y z)
+  unfolding selectorBytes
   record-is x y z e₁ e₂ e₃ = three 3 4 4 out mid two fin i x y z e₁ e₂ e₃
 
-  pub header-is : (x y : ℕ) → mid ≡ put 2 out i 14 → two ≡ put 4 mid (i + 2) x → fin ≡ put 4 two (i + 6) y → fin ≡ sets out i (header14 x y)
-  unfolding header14
+  pub header-is : (x y : ℕ) → mid ≡ put 2 out i 14 → two ≡ put 4 mid (i + 2) x → fin ≡ put 4 two (i + 6) y → fin ≡ sets out i (header14With x y)
+  unfolding header14With
   header-is x y e₁ e₂ e₃ = three 2 4 4 out mid two fin i 14 x y e₁ e₂ e₃
 
 -- ---- one record
 
 pub copied-is : (xs : List ℕ) (at total : ℕ) (ends : List ℕ) (k : ℕ) (out fin : List ℕ) (i x y z : ℕ) → Num 3 xs (at + 10 + 11 * k) x → y ≡ offsetFor total (getD ends (2 * k) 0)
-    → z ≡ offsetFor total (getD ends (2 * k + 1) 0) → fin ≡ sets out i (recordBytes x y z) → fin ≡ sets out i (recordAt xs at total ends k)
+    → z ≡ offsetFor total (getD ends (2 * k + 1) 0) → fin ≡ sets out i (selectorBytes x y z) → fin ≡ sets out i (recordAt xs at total ends k)
 unfolding recordAt
 copied-is xs at total ends k out fin i x y z n e₁ e₂ e = rw (e, n .is, e₁, e₂)
 
 pub record-size : (xs : List ℕ) (at total : ℕ) (ends : List ℕ) (k : ℕ) → length (recordAt xs at total ends k) ≡ 11
-unfolding recordAt recordBytes
+unfolding recordAt selectorBytes
 record-size xs at total ends k =
     rw (
       length-append,

@@ -9,7 +9,7 @@ use Rattle.laws.proofs.LengthLaws.{length-each, length-select}
 use Rattle.laws.proofs.SelectLaws.{length-flat}
 use Rattle.number.specs.BigEndian.{be, enc}
 use Rattle.number.proofs.BigEndianLaws.{length-enc, be-front, be-enc-fits}
-use Rattle.format14_uvs.specs.Tables.{table}
+use Rattle.format14_uvs.specs.Tables.{uvsTable}
 use Rattle.format14_uvs.specs.Default.{newDefault, newRecords, rangeBytes}
 use Rattle.format14_uvs.specs.NonDefault.{newNonDefault, keptMappings, keepsMapping, mappings, mappingAt, mappingBytes}
 use Rattle.format14.proofs.CoversLaws.{length-records}
@@ -19,15 +19,15 @@ use Rattle.format14_mapping.proofs.MappingLaws.{mapping-size}
 -- ---- tables of records of one size
 
 module _ {A : Type 0} (w : A → List ℕ) (size : ℕ) (h : (x : A) → length (w x) ≡ size) where
-  length-table : (xs : List A) → length (table w xs) ≤ 4 + size * length xs
-  unfolding table
+  length-table : (xs : List A) → length (uvsTable w xs) ≤ 4 + size * length xs
+  unfolding uvsTable
   length-table [] = omega arith
   length-table (x ∷ xs) = rw (length-append, length-enc, length-flat w size h (x ∷ xs)) (omega arith)
 
   -- the count tells the length
-  table-shape : (xs : List A) → length xs < 256 ^ 4 → 0 < length (table w xs)
-      → (length (table w xs) ≡ 4 + size * be 4 (table w xs) 0) × (0 < be 4 (table w xs) 0)
-  unfolding table
+  table-shape : (xs : List A) → length xs < 256 ^ 4 → 0 < length (uvsTable w xs)
+      → (length (uvsTable w xs) ≡ 4 + size * be 4 (uvsTable w xs) 0) × (0 < be 4 (uvsTable w xs) 0)
+  unfolding uvsTable
   table-shape [] l z = absurd (omega arith)
   table-shape (x ∷ xs) l z =
       let n = length (x ∷ xs) in

@@ -13,13 +13,13 @@ use Rattle.laws.proofs.LengthLaws.{length-each, length-map, length-select}
 use Rattle.format14_uvs.specs.Tables.{countsDefault, countsNonDefault}
 use Rattle.format14_uvs.specs.Default.{newDefault}
 use Rattle.format14_uvs.specs.NonDefault.{newNonDefault}
-use Rattle.format14.specs.Selectors.{Given, selectorRecords, defaultOffset, nonDefaultOffset, keepsSelector, keptRecords, defaultTable, nonDefaultTable}
+use Rattle.format14.specs.Selectors.{Job14, selectorRecords, defaultOffset, nonDefaultOffset, keepsSelector, keptRecords, defaultTable, nonDefaultTable}
 use Rattle.format14.specs.ByNumber.{slot, tableMax}
 use Rattle.format14.proofs.ShapeLaws.{length-default, length-non-default}
 use Rattle.format14.proofs.ByNumberLaws.{counts-fits}
 use Rattle.format14.specs.Ends.{from}
 use Rattle.format14.proofs.SlotsLaws.{from-missing, from-there}
-use Rattle.format14.specs.Format14.{rowOf, used, rows, written, lengthOf}
+use Rattle.format14.specs.Format14.{rowOf, used, rows, writtenTables, lengthOf14}
 use Rattle.format14.proofs.RowsLaws.{written-rows}
 
 -- ---- tables by number, none longer than tableMax
@@ -35,12 +35,12 @@ length-from f h (suc n) i =
 
 -- ---- of a source and lists within the limits
 
-pub record Modest (g : Given) : Type 0 where
+pub record Modest (g : Job14) : Type 0 where
   pub few : selectorRecords g ≤ 512
   pub short : g .size ≤ 1048576
   pub kept-few : length (g .kept) ≤ 131072
 
-module _ (g : Given) (m : Modest g) where
+module _ (g : Job14) (m : Modest g) where
   default-short : (k : ℕ) → length (defaultTable g k) ≤ tableMax
   unfolding defaultTable
   default-short k =
@@ -77,11 +77,11 @@ module _ (g : Given) (m : Modest g) where
         m .few,
       )
 
-  tables-short : length (concat (written (rows g))) ≤ 1073741824
+  tables-short : length (concat (writtenTables (rows g))) ≤ 1073741824
   tables-short =
       let all = length-lasts (from (slot g) (2 * selectorRecords g - 0) 0) in
       let each = length-from (slot g) slot-short (2 * selectorRecords g - 0) 0 in
       rw (written-rows g) (omega (arith, all, each, m .few))
 
-  pub rows-short : lengthOf (rows g) < 2147483648
+  pub rows-short : lengthOf14 (rows g) < 2147483648
   rows-short = omega (arith, rows-few, tables-short)

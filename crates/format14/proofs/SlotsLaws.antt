@@ -13,7 +13,7 @@ use Rattle.laws.proofs.ChoiceLaws.{false-true, by-leb, by-test}
 use Rattle.laws.proofs.EqListLaws.{eq-true, eq-refl}
 use Rattle.laws.proofs.LastsLaws.{eqList-length, among-here, among-skip, among-there, among-none, lasts-again, lasts-new, among-lasts, behind-here, behind-skip, behind-absent, before-behind, behind-le, length-behind}
 use Rattle.format14.specs.Selectors.{there}
-use Rattle.format14.specs.Ends.{from, rest, Written}
+use Rattle.format14.specs.Ends.{from, rest, writtenFrom}
 
 -- ---- there
 
@@ -86,25 +86,25 @@ module _ (f : ℕ → List ℕ) (m : ℕ) where
       let e : m - i ≡ suc (m - (i + 1)) = omega arith in
       rw e (from-there f (m - (i + 1)) i h)
 
-  pub written-missing : (i : ℕ) → i < m → length (f i) ≡ 0 → Written f m i ≡ Written f m (i + 1)
+  pub written-missing : (i : ℕ) → i < m → length (f i) ≡ 0 → writtenFrom f m i ≡ writtenFrom f m (i + 1)
   written-missing i l h = ap lasts (rest-missing i l h)
 
-  pub written-again : (i : ℕ) → i < m → 0 < length (f i) → among (f i) (rest f m (i + 1)) ≡ true → Written f m i ≡ Written f m (i + 1)
+  pub written-again : (i : ℕ) → i < m → 0 < length (f i) → among (f i) (rest f m (i + 1)) ≡ true → writtenFrom f m i ≡ writtenFrom f m (i + 1)
   written-again i l h e = ap lasts (rest-there i l h) ∙ lasts-again (f i) (rest f m (i + 1)) e
 
-  pub written-new : (i : ℕ) → i < m → 0 < length (f i) → among (f i) (rest f m (i + 1)) ≡ false → Written f m i ≡ f i ∷ Written f m (i + 1)
+  pub written-new : (i : ℕ) → i < m → 0 < length (f i) → among (f i) (rest f m (i + 1)) ≡ false → writtenFrom f m i ≡ f i ∷ writtenFrom f m (i + 1)
   written-new i l h e = ap lasts (rest-there i l h) ∙ lasts-new (f i) (rest f m (i + 1)) e
 
   among-rest : (i j : ℕ) → i ≤ j → j < m → 0 < length (f j) → among (f j) (rest f m i) ≡ true
   among-rest i j a b h = among-from f (m - i) i j a (omega arith) h
 
   -- a table stands as far from the end whether or not earlier ones are counted
-  behind-step : (i j : ℕ) → i < j → j < m → behind (f j) (Written f m i) ≡ behind (f j) (Written f m (i + 1))
+  behind-step : (i j : ℕ) → i < j → j < m → behind (f j) (writtenFrom f m i) ≡ behind (f j) (writtenFrom f m (i + 1))
   behind-step i j a b =
-      by-leb (behind (f j) (Written f m i) ≡ behind (f j) (Written f m (i + 1))) 1 (length (f i))
-      (λ h. by-test (behind (f j) (Written f m i) ≡ behind (f j) (Written f m (i + 1))) (among (f i) (rest f m (i + 1)))
+      by-leb (behind (f j) (writtenFrom f m i) ≡ behind (f j) (writtenFrom f m (i + 1))) 1 (length (f i))
+      (λ h. by-test (behind (f j) (writtenFrom f m i) ≡ behind (f j) (writtenFrom f m (i + 1))) (among (f i) (rest f m (i + 1)))
       (λ e. rw (written-again i (omega arith) h e))
-      (λ e. rw (written-new i (omega arith) h e) (behind-skip (f j) (f i) (Written f m (i + 1)) (apart h e))))
+      (λ e. rw (written-new i (omega arith) h e) (behind-skip (f j) (f i) (writtenFrom f m (i + 1)) (apart h e))))
       (λ h. rw (written-missing i (omega arith) (omega arith)))
     where
       apart : 0 < length (f i) → among (f i) (rest f m (i + 1)) ≡ false → eqList (f j) (f i) ≡ false
@@ -115,26 +115,26 @@ module _ (f : ℕ → List ℕ) (m : ℕ) where
           absurd (false-true (sym e ∙ rw same at (among-rest (i + 1) j (omega arith) b (rw same h)))))
           (λ q. q)
 
-  pub behind-stable : (i j : ℕ) → i ≤ j → j < m → behind (f j) (Written f m i) ≡ behind (f j) (Written f m 0)
+  pub behind-stable : (i j : ℕ) → i ≤ j → j < m → behind (f j) (writtenFrom f m i) ≡ behind (f j) (writtenFrom f m 0)
   behind-stable zero j a b = refl
   behind-stable (suc i) j a b =
       let e : suc i ≡ i + 1 = omega arith in
       rw e (sym (behind-step i j (omega arith) b)) ∙ behind-stable i j (omega arith) b
 
-  pub behind-missing : (i : ℕ) → length (f i) ≡ 0 → behind (f i) (Written f m 0) ≡ 0
-  behind-missing i h = rw (nil-eq (f i) h) (behind-absent [] (Written f m 0) (among-lasts [] (rest f m 0) ∙ from-nil f (m - 0) 0))
+  pub behind-missing : (i : ℕ) → length (f i) ≡ 0 → behind (f i) (writtenFrom f m 0) ≡ 0
+  behind-missing i h = rw (nil-eq (f i) h) (behind-absent [] (writtenFrom f m 0) (among-lasts [] (rest f m 0) ∙ from-nil f (m - 0) 0))
 
   pub behind-new : (i : ℕ) → i < m → 0 < length (f i) → among (f i) (rest f m (i + 1)) ≡ false
-      → behind (f i) (Written f m 0) ≡ length (f i) + length (concat (Written f m (i + 1)))
+      → behind (f i) (writtenFrom f m 0) ≡ length (f i) + length (concat (writtenFrom f m (i + 1)))
   behind-new i l h e =
       sym (behind-stable i i (omega arith) l)
-      ∙ rw (written-new i l h e) (behind-here (f i) (f i) (Written f m (i + 1)) (eq-refl (f i)))
+      ∙ rw (written-new i l h e) (behind-here (f i) (f i) (writtenFrom f m (i + 1)) (eq-refl (f i)))
 
   behind-again : (i : ℕ) → i < m → 0 < length (f i) → among (f i) (rest f m (i + 1)) ≡ true
-      → behind (f i) (Written f m 0) ≤ length (concat (Written f m (i + 1)))
+      → behind (f i) (writtenFrom f m 0) ≤ length (concat (writtenFrom f m (i + 1)))
   behind-again i l h e =
       let stable = behind-stable i i (omega arith) l in
-      rw (← stable, written-again i l h e) (behind-le (f i) (Written f m (i + 1)))
+      rw (← stable, written-again i l h e) (behind-le (f i) (writtenFrom f m (i + 1)))
 
   -- a table is missing, or has an equal later on, or is written at its own place
   by-turn : (P : Type 0) (i : ℕ) → (length (f i) ≡ 0 → P) → (0 < length (f i) → among (f i) (rest f m (i + 1)) ≡ true → P)
@@ -145,24 +145,24 @@ module _ (f : ℕ → List ℕ) (m : ℕ) where
       (λ h. missing (omega arith))
 
   -- it is written at its own place exactly where it stands further from the end than all later ones
-  pub written-turn : (i : ℕ) → i < m → length (concat (Written f m (i + 1))) < behind (f i) (Written f m 0) → Written f m i ≡ f i ∷ Written f m (i + 1)
+  pub written-turn : (i : ℕ) → i < m → length (concat (writtenFrom f m (i + 1))) < behind (f i) (writtenFrom f m 0) → writtenFrom f m i ≡ f i ∷ writtenFrom f m (i + 1)
   written-turn i l h =
-      by-turn (Written f m i ≡ f i ∷ Written f m (i + 1)) i
+      by-turn (writtenFrom f m i ≡ f i ∷ writtenFrom f m (i + 1)) i
       (λ z. absurd (omega (arith, behind-missing i z)))
       (λ p e. absurd (omega (arith, behind-again i l p e)))
       (λ p e. written-new i l p e)
 
-  pub behind-turn : (i : ℕ) → i < m → length (concat (Written f m (i + 1))) < behind (f i) (Written f m 0)
-      → behind (f i) (Written f m 0) ≡ length (f i) + length (concat (Written f m (i + 1)))
+  pub behind-turn : (i : ℕ) → i < m → length (concat (writtenFrom f m (i + 1))) < behind (f i) (writtenFrom f m 0)
+      → behind (f i) (writtenFrom f m 0) ≡ length (f i) + length (concat (writtenFrom f m (i + 1)))
   behind-turn i l h =
-      by-turn (behind (f i) (Written f m 0) ≡ length (f i) + length (concat (Written f m (i + 1)))) i
+      by-turn (behind (f i) (writtenFrom f m 0) ≡ length (f i) + length (concat (writtenFrom f m (i + 1)))) i
       (λ z. absurd (omega (arith, behind-missing i z)))
       (λ p e. absurd (omega (arith, behind-again i l p e)))
       (λ p e. behind-new i l p e)
 
-  pub written-still : (i : ℕ) → i < m → behind (f i) (Written f m 0) ≤ length (concat (Written f m (i + 1))) → Written f m i ≡ Written f m (i + 1)
+  pub written-still : (i : ℕ) → i < m → behind (f i) (writtenFrom f m 0) ≤ length (concat (writtenFrom f m (i + 1))) → writtenFrom f m i ≡ writtenFrom f m (i + 1)
   written-still i l h =
-      by-turn (Written f m i ≡ Written f m (i + 1)) i
+      by-turn (writtenFrom f m i ≡ writtenFrom f m (i + 1)) i
       (λ z. written-missing i l z)
       (λ p e. written-again i l p e)
       (λ p e. absurd (omega (arith, behind-new i l p e)))
@@ -170,12 +170,12 @@ module _ (f : ℕ → List ℕ) (m : ℕ) where
   -- ---- the distances from the end
 
   -- a missing table has none, any other stands before the end
-  pub behind-there : (i : ℕ) → i < m → length (f i) ≤ behind (f i) (Written f m 0)
+  pub behind-there : (i : ℕ) → i < m → length (f i) ≤ behind (f i) (writtenFrom f m 0)
   behind-there i l =
-      by-leb (length (f i) ≤ behind (f i) (Written f m 0)) 1 (length (f i))
-      (λ h. length-behind (f i) (Written f m 0) (among-lasts (f i) (rest f m 0) ∙ among-rest 0 i (omega arith) l h))
+      by-leb (length (f i) ≤ behind (f i) (writtenFrom f m 0)) 1 (length (f i))
+      (λ h. length-behind (f i) (writtenFrom f m 0) (among-lasts (f i) (rest f m 0) ∙ among-rest 0 i (omega arith) l h))
       (λ h. omega arith)
 
   pub before-there : (i : ℕ) → i < m → 0 < length (f i)
-      → before (f i) (Written f m 0) + behind (f i) (Written f m 0) ≡ length (concat (Written f m 0))
-  before-there i l h = before-behind (f i) (Written f m 0) (among-lasts (f i) (rest f m 0) ∙ among-rest 0 i (omega arith) l h)
+      → before (f i) (writtenFrom f m 0) + behind (f i) (writtenFrom f m 0) ≡ length (concat (writtenFrom f m 0))
+  before-there i l h = before-behind (f i) (writtenFrom f m 0) (among-lasts (f i) (rest f m 0) ∙ among-rest 0 i (omega arith) l h)

@@ -29,9 +29,9 @@ use Rattle.format14_uvs.specs.NonDefault.{mappings, newNonDefault}
 use Rattle.format14_uvs.proofs.ReadLaws.{each-row, each-select}
 use Rattle.format14.specs.Gives.{glyphsFor, stayingGlyphs, newGlyph, Glyphs}
 use Rattle.format14.proofs.GivesLaws.{none-read, stands-mappings, new-mappings, new-gives, all-stay}
-use Rattle.format14.specs.Selectors.{Given, selectorRecords, varSelector, nonDefaultOffset, keepsSelector, defaultTable, nonDefaultTable, keptRecords, there, one}
+use Rattle.format14.specs.Selectors.{Job14, selectorRecords, selectorOf, nonDefaultOffset, keepsSelector, defaultTable, nonDefaultTable, keptRecords, there, one}
 use Rattle.format14.proofs.ShapeLaws.{non-default-shape}
-use Rattle.format14.specs.Format14.{Row, rowOf, rowsOf, rows, used, tables, written, offsetOf, rowBytes, lengthOf, header, format14}
+use Rattle.format14.specs.Format14.{Row, rowOf, rowsOf, rows, used, tables, writtenTables, uvsOffset, rowBytes, lengthOf14, header14, format14}
 use Rattle.format14.specs.Variants.{recordMappings, variants}
 use Rattle.format14.proofs.OffsetsLaws.{leads, offset-none, offset-fits, counts-here, counts-none}
 use Rattle.format14.proofs.SlotsLaws.{there-some, nil-eq}
@@ -74,15 +74,15 @@ pub record Good (r : Row) : Type 0 where
 parts : (a b c d e : List ℕ) → a ++ ((b ++ (c ++ d)) ++ e) ≡ (a ++ b) ++ (c ++ (d ++ e))
 parts a b c d e = simp append-assoc
 
-module _ (rs : List Row) (ys : List ℕ) (at : ℕ) (st : Stands ys at (format14 rs)) (small : lengthOf rs < 256 ^ 4) where
+module _ (rs : List Row) (ys : List ℕ) (at : ℕ) (st : Stands ys at (format14 rs)) (small : lengthOf14 rs < 256 ^ 4) where
   pub read-count : be 4 ys (at + 6) ≡ length rs
   unfolding format14
   read-count =
       let n = length rs in
-      let six : length (enc 2 14 ++ enc 4 (lengthOf rs)) ≡ 6 = rw (length-append, length-enc 2 14, length-enc 4 (lengthOf rs)) in
-      let tail = flat (rowBytes rs) rs ++ concat (written rs) in
-      let ahead : format14 rs ≡ (enc 2 14 ++ enc 4 (lengthOf rs)) ++ (enc 4 n ++ tail) = simp append-assoc in
-      let here = rw six at (stands-append (enc 2 14 ++ enc 4 (lengthOf rs)) (enc 4 n) tail) in
+      let six : length (enc 2 14 ++ enc 4 (lengthOf14 rs)) ≡ 6 = rw (length-append, length-enc 2 14, length-enc 4 (lengthOf14 rs)) in
+      let tail = flat (rowBytes rs) rs ++ concat (writtenTables rs) in
+      let ahead : format14 rs ≡ (enc 2 14 ++ enc 4 (lengthOf14 rs)) ++ (enc 4 n ++ tail) = simp append-assoc in
+      let here = rw six at (stands-append (enc 2 14 ++ enc 4 (lengthOf14 rs)) (enc 4 n) tail) in
       be-stands (stands-in at 6 st (rw ahead here)) 4 0 (at + 6) (omega arith) (rw (length-enc 4 n) (omega arith)) ∙ be-enc-fits 4 n (omega arith)
 
   module _ (us : List Row) (r : Row) (vs : List Row) (e : rs ≡ us ++ (r ∷ vs)) where
@@ -91,9 +91,9 @@ module _ (rs : List Row) (ys : List ℕ) (at : ℕ) (st : Stands ys at (format14
     row-stands =
         let w = rowBytes rs in
         let rest : flat w rs ≡ flat w us ++ (w r ++ flat w vs) = ap (flat w) e ∙ flat-append w us (r ∷ vs) in
-        let place : length (header rs ++ flat w us) ≡ 10 + 11 * length us = rw (length-append, length-head rs, length-flat w 11 (row-size rs) us) in
-        let whole : format14 rs ≡ (header rs ++ flat w us) ++ (w r ++ (flat w vs ++ concat (written rs))) = ap (λ l. header rs ++ (l ++ concat (written rs))) rest ∙ parts (header rs) (flat w us) (w r) (flat w vs) (concat (written rs)) in
-        rw whole (rw place at (stands-append (header rs ++ flat w us) (w r) (flat w vs ++ concat (written rs))))
+        let place : length (header14 rs ++ flat w us) ≡ 10 + 11 * length us = rw (length-append, length-head rs, length-flat w 11 (row-size rs) us) in
+        let whole : format14 rs ≡ (header14 rs ++ flat w us) ++ (w r ++ (flat w vs ++ concat (writtenTables rs))) = ap (λ l. header14 rs ++ (l ++ concat (writtenTables rs))) rest ∙ parts (header14 rs) (flat w us) (w r) (flat w vs) (concat (writtenTables rs)) in
+        rw whole (rw place at (stands-append (header14 rs ++ flat w us) (w r) (flat w vs ++ concat (writtenTables rs))))
 
     abbrev t : List ℕ
     t = r .nonDefaultUVS
@@ -115,39 +115,39 @@ module _ (rs : List Row) (ys : List ℕ) (at : ℕ) (st : Stands ys at (format14
     pub read-selector : r .selector < 256 ^ 3 → be 3 ys (at + 10 + 11 * length us) ≡ r .selector
     read-selector f =
         let three = length-enc 3 (r .selector) in
-        let first = enc 4 (offsetOf rs (r .defaultUVS)) ++ enc 4 (offsetOf rs t) in
+        let first = enc 4 (uvsOffset rs (r .defaultUVS)) ++ enc 4 (uvsOffset rs t) in
         be-stands row-here 3 0 (at + 10 + 11 * length us) (omega arith) (rw (row-size rs r) (omega arith))
         ∙ be-front 3 (enc 3 (r .selector)) first 0 (omega (arith, three))
         ∙ be-enc-fits 3 (r .selector) f
 
-    read-offset : be 4 ys (at + 10 + 11 * length us + 7) ≡ offsetOf rs t
+    read-offset : be 4 ys (at + 10 + 11 * length us + 7) ≡ uvsOffset rs t
     read-offset =
         let a = enc 3 (r .selector) in
-        let b = enc 4 (offsetOf rs (r .defaultUVS)) in
-        let d = enc 4 (offsetOf rs t) in
+        let b = enc 4 (uvsOffset rs (r .defaultUVS)) in
+        let d = enc 4 (uvsOffset rs t) in
         let three : length a + 4 ≡ 7 = rw (length-enc 3 (r .selector)) in
-        let four : length b + 0 ≡ 4 = rw (length-enc 4 (offsetOf rs (r .defaultUVS))) in
+        let four : length b + 0 ≡ 4 = rw (length-enc 4 (uvsOffset rs (r .defaultUVS))) in
         be-stands row-here 4 7 (at + 10 + 11 * length us + 7) (omega arith) (rw (row-size rs r) (omega arith))
         ∙ rw three at (be-back 4 a (b ++ d) 4)
         ∙ rw four at (be-back 4 b d 0)
-        ∙ be-enc-fits 4 (offsetOf rs t) (offset-fits rs t among-row small)
+        ∙ be-enc-fits 4 (uvsOffset rs t) (offset-fits rs t among-row small)
 
-    read-mappings : Good r → recordMappings ys at (lengthOf rs) (length us) ≡ mappings t 0
+    read-mappings : Good r → recordMappings ys at (lengthOf14 rs) (length us) ≡ mappings t 0
     unfolding recordMappings
     read-mappings g =
-        let o = offsetOf rs t in
-        rw read-offset (by-leb (pick (countsNonDefault ys at (lengthOf rs) o) (mappings ys (at + o)) [] ≡ mappings t 0) 1 (length t)
+        let o = uvsOffset rs t in
+        rw read-offset (by-leb (pick (countsNonDefault ys at (lengthOf14 rs) o) (mappings ys (at + o)) [] ≡ mappings t 0) 1 (length t)
         (λ h.
         let here = stands-in at o st (leads rs t among-row h) in
         rw (counts-here rs t among-row ys at st 5 h (g .shape h)) (g .reads ys (at + o) here h))
         (λ h.
         let none : length t ≡ 0 = omega arith in
-        rw (offset-none rs t none, counts-none 5 ys at (lengthOf rs), nil-eq t none) (sym (none-read 0))))
+        rw (offset-none rs t none, counts-none 5 ys at (lengthOf14 rs), nil-eq t none) (sym (none-read 0))))
 
   -- what the subtable gives, row by row
-  rows-read : Each Good rs → (v c : ℕ) → variants ys at (lengthOf rs) v c ≡ flat (λ r. glyphsFor (mappings (r .nonDefaultUVS) 0) c) (select (λ r. eqb (r .selector) v) rs)
+  rows-read : Each Good rs → (v c : ℕ) → variants ys at (lengthOf14 rs) v c ≡ flat (λ r. glyphsFor (mappings (r .nonDefaultUVS) 0) c) (select (λ r. eqb (r .selector) v) rs)
   rows-read good v c =
-      rw read-count (by-place (λ k. glyphsFor (recordMappings ys at (lengthOf rs) k) c) (λ k. eqb (be 3 ys (at + 10 + 11 * k)) v)
+      rw read-count (by-place (λ k. glyphsFor (recordMappings ys at (lengthOf14 rs) k) c) (λ k. eqb (be 3 ys (at + 10 + 11 * k)) v)
       (λ r. glyphsFor (mappings (r .nonDefaultUVS) 0) c) (λ r. eqb (r .selector) v) [] rs
       (λ us r vs e.
       let g = each-right Good us (r ∷ vs) (rw e at good) .0 in
@@ -155,19 +155,19 @@ module _ (rs : List Row) (ys : List ℕ) (at : ℕ) (st : Stands ys at (format14
 
 -- ---- the rows of the source's records
 
-module _ (g : Given) (v c : ℕ) where
+module _ (g : Job14) (v c : ℕ) where
   abbrev given : ℕ → List ℕ
   given k = glyphsFor (mappings (nonDefaultTable g k) 0) c
 
   abbrev chosen : ℕ → Bool
-  chosen k = eqb (varSelector g k) v
+  chosen k = eqb (selectorOf g k) v
 
   abbrev inRows : List Row → List ℕ
   inRows rs = flat (λ r. glyphsFor (mappings (r .nonDefaultUVS) 0) c) (select (λ r. eqb (r .selector) v) rs)
 
   pub apart : (k : ℕ) → (keepsSelector g k ≡ holds (g .kept) v → ⊥) → chosen k ≡ false
   unfolding keepsSelector
-  apart k n = by-test (chosen k ≡ false) (chosen k) (λ e. absurd (n (ap (holds (g .kept)) (eqb-true (varSelector g k) v e)))) (λ e. e)
+  apart k n = by-test (chosen k ≡ false) (chosen k) (λ e. absurd (n (ap (holds (g .kept)) (eqb-true (selectorOf g k) v e)))) (λ e. e)
 
   -- a row that is left out gives nothing
   unused-none : (k : ℕ) → used (rowOf g k) ≡ false → given k ≡ []
@@ -216,7 +216,7 @@ select-append p (x ∷ xs) ys =
     (λ e. rw e (ap (λ l. x ∷ l) ih))
     (λ e. rw e ih)
 
-module _ (g : Given) (bytes : Bytes (g .source)) (small : Glyphs (g .glyphs)) where
+module _ (g : Job14) (bytes : Bytes (g .source)) (small : Glyphs (g .glyphs)) where
   abbrev place : ℕ → ℕ
   place k = g .start + nonDefaultOffset g k
 
@@ -268,10 +268,10 @@ module _ (g : Given) (bytes : Bytes (g .source)) (small : Glyphs (g .glyphs)) wh
 
   -- ---- the new subtable, wherever it stands
 
-  module _ (ys : List ℕ) (at : ℕ) (st : Stands ys at (format14 (rows g))) (fits : lengthOf (rows g) < 256 ^ 4) (v c : ℕ) where
+  module _ (ys : List ℕ) (at : ℕ) (st : Stands ys at (format14 (rows g))) (fits : lengthOf14 (rows g) < 256 ^ 4) (v c : ℕ) where
     -- with a kept selector, a code point is given the new numbers of those glyphs that the source's subtable gave it and that stay
     pub subtable-gives : holds (g .kept) v ≡ true
-        → variants ys at (lengthOf (rows g)) v c
+        → variants ys at (lengthOf14 (rows g)) v c
         ≡ map (newGlyph (g .glyphs)) (stayingGlyphs (g .kept) (g .requested) c (variants (g .source) (g .start) (g .size) v c))
     subtable-gives h =
         rows-read (rows g) ys at st fits (all-good (selectorRecords g) 0) v c
@@ -280,9 +280,9 @@ module _ (g : Given) (bytes : Bytes (g .source)) (small : Glyphs (g .glyphs)) wh
 
     -- if the code point is kept too, of all of them: none is lost, none is won
     pub subtable-keeps : holds (g .kept) v ≡ true → holds (g .kept) c ≡ true
-        → variants ys at (lengthOf (rows g)) v c ≡ map (newGlyph (g .glyphs)) (variants (g .source) (g .start) (g .size) v c)
+        → variants ys at (lengthOf14 (rows g)) v c ≡ map (newGlyph (g .glyphs)) (variants (g .source) (g .start) (g .size) v c)
     subtable-keeps h k = subtable-gives h ∙ ap (λ (l : List ℕ). map (newGlyph (g .glyphs)) l) (all-stay (g .kept) (g .requested) c k (variants (g .source) (g .start) (g .size) v c))
 
     -- with any other selector, nothing
-    pub subtable-drops : holds (g .kept) v ≡ false → variants ys at (lengthOf (rows g)) v c ≡ []
+    pub subtable-drops : holds (g .kept) v ≡ false → variants ys at (lengthOf14 (rows g)) v c ≡ []
     subtable-drops h = rows-read (rows g) ys at st fits (all-good (selectorRecords g) 0) v c ∙ dropped-rows g v c h (selectorRecords g) 0

@@ -1,4 +1,4 @@
--- The tables of the selector records by number: table 2k is the default table of record k, table 2k + 1 its non-default table.
+-- Inner: the tables of the selector records by number; no promise names them. Table 2k is the default table of record k, table 2k + 1 its non-default table.
 use Prim.Native.Nat.{ℕ, _+_, _*_, _/_, _%_, _<_, _≤_}
 use mathlib.Core.Path.{_≡_}
 use mathlib.Core.List.{List, []}
@@ -13,14 +13,14 @@ use Rattle.number.specs.BigEndian.{be}
 use Rattle.format14_uvs.specs.Checksum.{checksum}
 use Rattle.format14_uvs.specs.Tables.{counts}
 use Rattle.format14.specs.Streams.{CodePoints}
-use Rattle.format14.specs.Selectors.{Given, keepsSelector, defaultTable, nonDefaultTable, badKeptRecord}
+use Rattle.format14.specs.Selectors.{Job14, keepsSelector, defaultTable, nonDefaultTable, badKeptRecord}
 
 -- new table t: none where the selector is not kept
-unfoldable pub slot : Given → ℕ → List ℕ
+unfoldable pub slot : Job14 → ℕ → List ℕ
 slot g t = pick (keepsSelector g (t / 2)) (pick (eqb (t % 2) 0) (defaultTable g (t / 2)) (nonDefaultTable g (t / 2))) []
 
 -- refusal 8 for it, which a non-default table alone can bring
-unfoldable pub badSlot : Given → ℕ → Bool
+unfoldable pub badSlot : Job14 → ℕ → Bool
 badSlot g t = pick (eqb (t % 2) 0) false (badKeptRecord g (t / 2))
 
 -- the offset that the source's selector record gives table t
@@ -33,7 +33,7 @@ sourceTable xs at len kept t =
     pick (both (holds kept (varSelector xs at (t / 2))) (counts (4 + t % 2) xs at len (tableOffset xs at t))) (tableOffset xs at t) 0
 
 -- what a search for it gives: the offset, and its bound
-pub record Source (xs : List ℕ) (at len : ℕ) (kept : List ℕ) (t r : ℕ) : Type 0 where
+pub record SourceOffset (xs : List ℕ) (at len : ℕ) (kept : List ℕ) (t r : ℕ) : Type 0 where
   pub is : r ≡ sourceTable xs at len kept t
   pub within : r ≤ len
 
@@ -58,7 +58,7 @@ abbrev pub tableMax : ℕ
 tableMax = 1048576
 
 -- the length of new table t, and its bound
-pub record Size (g : Given) (t r : ℕ) : Type 0 where
+pub record SlotLength (g : Job14) (t r : ℕ) : Type 0 where
   pub is : r ≡ length (slot g t)
   pub below : r ≤ tableMax
 
@@ -74,6 +74,6 @@ pub record Sums (f : ℕ → List ℕ) (m : ℕ) (ss : List ℕ) : Type 0 where
   pub each : (j : ℕ) → j < m → getD ss j 0 ≡ checksum (4 + j % 2) (f j)
 
 -- both tables are there
-pub record Both (g : Given) (i j : ℕ) : Type 0 where
+pub record BothThere (g : Job14) (i j : ℕ) : Type 0 where
   pub one : 0 < length (slot g i)
   pub other : 0 < length (slot g j)

@@ -1,4 +1,4 @@
--- What a non-default table gives a code point: the glyphs of the mappings that name it, in the table's order.
+-- Inner: what a non-default table gives a code point, for laws alone: the glyphs of the mappings that name it, in the table's order.
 use Prim.Native.Nat.{ℕ, _^_, _<_}
 use mathlib.Core.List.{List, map}
 use lib.Dec.{eqb}

@@ -7,12 +7,12 @@ use lib.ListN.{length}
 use lib.Seq.{sets}
 use Rattle.laws.specs.Choice.{pick}
 use Rattle.laws.specs.Pieces.{concat}
-use Rattle.format14.specs.Ends.{Written}
-use Rattle.format14.specs.declared.Outcome.{Outcome}
-use Rattle.format14.specs.declared.Outcome.the-variants.{Refused8, Empty, Length}
+use Rattle.format14.specs.Ends.{writtenFrom}
+use Rattle.format14.specs.declared.Outcome14.{Outcome14}
+use Rattle.format14.specs.declared.Outcome14.the-variants.{Refused8, Empty, Length}
 
 -- refusal 8 comes first; a subtable without selector records is empty
-unfoldable pub outcomeFrom : Bool → ℕ → ℕ → Outcome
+unfoldable pub outcomeFrom : Bool → ℕ → ℕ → Outcome14
 outcomeFrom refused count total = pick refused Refused8 (pick (eqb count 0) Empty (Length total))
 
 -- bytes written so that they end at `stop`
@@ -21,5 +21,5 @@ endsAt stop out bytes = sets out (stop - length bytes) bytes
 
 -- the written tables have room before `stop`
 pub record Stops (f : ℕ → List ℕ) (m stop : ℕ) (out : List ℕ) : Type 0 where
-  pub room : length (concat (Written f m 0)) ≤ stop
+  pub room : length (concat (writtenFrom f m 0)) ≤ stop
   pub within : stop ≤ length out

@@ -1,5 +1,5 @@
--- Selector records of a new subtable by the distances of their tables from its end: table 2k is the default table of the source's record k,
--- table 2k + 1 its non-default table, and distance 0 says that there is none (docs/01-rules.md, "Format 14").
+-- Inner: selector records of a new subtable by the distances of their tables from its end; no promise names them. Table 2k is the default table of the source's record k,
+-- table 2k + 1 its non-default table, and distance 0 says that there is none (docs/RULES.md, "Format 14").
 use Prim.Native.Nat.{ℕ, _+_, _-_, _*_, _<_, _≤_}
 use mathlib.Core.List.{List, _++_}
 use mathlib.Core.Bool.{Bool}
@@ -23,16 +23,16 @@ unfoldable pub offsetFor : ℕ → ℕ → ℕ
 offsetFor total far = pick (eqb far 0) 0 (total - far)
 
 -- varSelector, defaultUVSOffset and nonDefaultUVSOffset
-unfoldable pub recordBytes : ℕ → ℕ → ℕ → List ℕ
-recordBytes selector first second = enc 3 selector ++ (enc 4 first ++ enc 4 second)
+unfoldable pub selectorBytes : ℕ → ℕ → ℕ → List ℕ
+selectorBytes selector first second = enc 3 selector ++ (enc 4 first ++ enc 4 second)
 
 -- record k of the source's subtable at `at`, with its new offsets
 unfoldable pub recordAt : List ℕ → ℕ → ℕ → List ℕ → ℕ → List ℕ
-recordAt xs at total ends k = recordBytes (varSelector xs at k) (offsetFor total (getD ends (2 * k) 0)) (offsetFor total (getD ends (2 * k + 1) 0))
+recordAt xs at total ends k = selectorBytes (varSelector xs at k) (offsetFor total (getD ends (2 * k) 0)) (offsetFor total (getD ends (2 * k + 1) 0))
 
 -- format 14, the subtable's length and its number of selector records
-unfoldable pub header14 : ℕ → ℕ → List ℕ
-header14 total count = enc 2 14 ++ (enc 4 total ++ enc 4 count)
+unfoldable pub header14With : ℕ → ℕ → List ℕ
+header14With total count = enc 2 14 ++ (enc 4 total ++ enc 4 count)
 
 -- the distances of the tables of n records
 pub record Distances (n total : ℕ) (ends : List ℕ) : Type 0 where

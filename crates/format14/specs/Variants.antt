@@ -1,4 +1,4 @@
--- What a format 14 subtable, at `at` and of `len` bytes, gives a code point with a variation selector: the glyphs of the mappings that the non-default tables
+-- Inner: for laws alone, what a format 14 subtable, at `at` and of `len` bytes, gives a code point with a variation selector: the glyphs of the mappings that the non-default tables
 -- of the selector's records have for it, in the order of records and mappings; and whether their default tables cover it.
 use Prim.Native.Nat.{ℕ, _+_}
 use mathlib.Core.List.{List, []}

@@ -7,7 +7,7 @@ pub struct Subtable {
 }
 
 // What becomes of a format 14 subtable: refusal 8, nothing left to write, or the length of the new one.
-pub enum Outcome {
+pub enum Outcome14 {
     Refused8,
     Empty,
     Length(usize),

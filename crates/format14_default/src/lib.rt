@@ -7,7 +7,7 @@ ghost use lib.ListN.{length};
 ghost use lib.Seq.{sets};
 ghost use Rattle.lists_marks.specs.Marks.{between, marked, flagged, Flags};
 ghost use Rattle.format14_uvs.specs.Default.{range, covers, coveredBy, rangeBytes, newDefault};
-ghost use Rattle.format14_ranges.specs.Stream.{Lent, Beside, Count, records, mostOf};
+ghost use Rattle.format14_ranges.specs.Stream.{DefaultLent, KeptFlagged, RangeCount, records, mostOf};
 ghost use Rattle.laws.specs.Select.{flat};
 ghost use Rattle.number.specs.BigEndian.{be};
 ghost use Rattle.format14_uvs.specs.Checksum.{mixed, checksum};
@@ -55,7 +55,7 @@ fn mark_range(
 
 // What cover does, by places noted of the kept points, or with none.
 fn cover_by(flags: &mut [u8], s: &[u8], p: usize, kept: &[u32], places: &[u32])
-    requires { ⌜ Lent (now s) p (now kept) (now flags) ⌝ }
+    requires { ⌜ DefaultLent (now s) p (now kept) (now flags) ⌝ }
     ensures { λ _. ⌜ now (flags .exit) ≡ sets (now (flags .entry)) 0 (flagged (coveredBy (now (s .entry)) p) (now (kept .entry))) ⌝ }
 {
     lists_flags::clear(flags, kept.len());
@@ -70,7 +70,7 @@ fn cover_by(flags: &mut [u8], s: &[u8], p: usize, kept: &[u32], places: &[u32])
 
 // The same, with the places of the kept points noted first.
 fn cover_many(flags: &mut [u8], s: &[u8], p: usize, kept: &[u32])
-    requires { ⌜ Lent (now s) p (now kept) (now flags) ⌝ }
+    requires { ⌜ DefaultLent (now s) p (now kept) (now flags) ⌝ }
     ensures { λ _. ⌜ now (flags .exit) ≡ sets (now (flags .entry)) 0 (flagged (coveredBy (now (s .entry)) p) (now (kept .entry))) ⌝ }
 {
     let mut places = [0u32; PLACES];
@@ -80,7 +80,7 @@ fn cover_many(flags: &mut [u8], s: &[u8], p: usize, kept: &[u32])
 
 // Sets each kept point's flag: 1 if some range of the table at p covers it, else 0.
 pub fn cover(flags: &mut [u8], s: &[u8], p: usize, kept: &[u32])
-    requires { ⌜ Lent (now s) p (now kept) (now flags) ⌝ }
+    requires { ⌜ DefaultLent (now s) p (now kept) (now flags) ⌝ }
     ensures { λ _. ⌜ now (flags .exit) ≡ sets (now (flags .entry)) 0 (flagged (coveredBy (now (s .entry)) p) (now (kept .entry))) ⌝ }
 {
     if number::u32_at(s, p) as usize >= MANY {
@@ -106,8 +106,8 @@ struct RecordsMeasure {
 
 // Both in one walk.
 fn measure_ranges(kept: &[u32], flags: &[u8], most: u32) -> RecordsMeasure
-    requires { ⌜ Beside (now kept) (now flags) ⌝ }
-    ensures { λ r. ⌜ Count most (now (kept .entry)) (now (flags .entry)) (r .count) ⌝ }
+    requires { ⌜ KeptFlagged (now kept) (now flags) ⌝ }
+    ensures { λ r. ⌜ RangeCount most (now (kept .entry)) (now (flags .entry)) (r .count) ⌝ }
     ensures { λ r. ⌜ r .sum ≡ mixed 4 0 (flat rangeBytes (records most (now (kept .entry)) (now (flags .entry)) 0)) ⌝ }
 {
     let mut i = format14_ranges::next_point(kept, flags, 0);
@@ -133,9 +133,9 @@ fn copy_range(out: &mut [u8], to: usize, start: u32, additional: u32)
 
 // Writes every record; how many.
 fn copy_ranges(out: &mut [u8], to: usize, kept: &[u32], flags: &[u8], most: u32) -> usize
-    requires { ⌜ Beside (now kept) (now flags) ⌝ }
+    requires { ⌜ KeptFlagged (now kept) (now flags) ⌝ }
     requires { ⌜ to + length (flat rangeBytes (records most (now kept) (now flags) 0)) ≤ length (now out) ⌝ }
-    ensures { λ r. ⌜ Count most (now (kept .entry)) (now (flags .entry)) r ⌝ }
+    ensures { λ r. ⌜ RangeCount most (now (kept .entry)) (now (flags .entry)) r ⌝ }
     ensures { λ _. ⌜ now (out .exit) ≡ sets (now (out .entry)) to (flat rangeBytes (records most (now (kept .entry)) (now (flags .entry)) 0)) ⌝ }
 {
     let mut i = format14_ranges::next_point(kept, flags, 0);
@@ -151,7 +151,7 @@ fn copy_ranges(out: &mut [u8], to: usize, kept: &[u32], flags: &[u8], most: u32)
 
 // Flags the covered points, and tells how many may follow a record's start.
 pub fn prepare(flags: &mut [u8], s: &[u8], p: usize, kept: &[u32]) -> u32
-    requires { ⌜ Lent (now s) p (now kept) (now flags) ⌝ }
+    requires { ⌜ DefaultLent (now s) p (now kept) (now flags) ⌝ }
     ensures { λ most. ⌜ most ≡ mostOf (be 4 (now (s .entry)) p) (now (kept .entry)) ⌝ }
     ensures { λ _. ⌜ now (flags .exit) ≡ sets (now (flags .entry)) 0 (flagged (coveredBy (now (s .entry)) p) (now (kept .entry))) ⌝ }
 {
@@ -166,7 +166,7 @@ pub struct DefaultMeasure {
 }
 
 pub fn measure_default(s: &[u8], p: usize, kept: &[u32], flags: &mut [u8]) -> DefaultMeasure
-    requires { ⌜ Lent (now s) p (now kept) (now flags) ⌝ }
+    requires { ⌜ DefaultLent (now s) p (now kept) (now flags) ⌝ }
     ensures { λ r. ⌜ r .size ≡ length (newDefault (now (s .entry)) p (now (kept .entry))) ⌝ }
     ensures { λ r. ⌜ r .sum ≡ checksum 4 (newDefault (now (s .entry)) p (now (kept .entry))) ⌝ }
     ensures { λ _. ⌜ now (flags .exit) ≡ sets (now (flags .entry)) 0 (flagged (coveredBy (now (s .entry)) p) (now (kept .entry))) ⌝ }
@@ -194,7 +194,7 @@ pub fn copy_default_uvs(
     kept: &[u32],
     flags: &mut [u8],
 )
-    requires { ⌜ Lent (now s) p (now kept) (now flags) ⌝ }
+    requires { ⌜ DefaultLent (now s) p (now kept) (now flags) ⌝ }
     requires { ⌜ to + length (newDefault (now s) p (now kept)) ≤ length (now out) ⌝ }
     ensures { λ _. ⌜ now (out .exit) ≡ sets (now (out .entry)) to (newDefault (now (s .entry)) p (now (kept .entry))) ⌝ }
     ensures { λ _. ⌜ now (flags .exit) ≡ sets (now (flags .entry)) 0 (flagged (coveredBy (now (s .entry)) p) (now (kept .entry))) ⌝ }

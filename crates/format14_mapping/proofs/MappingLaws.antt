@@ -22,14 +22,14 @@ use Rattle.format14_uvs.specs.Checksum.{stirred, gathered, mixed, checksum}
 use Rattle.format14_uvs.proofs.TablesLaws.{size-none, size-some}
 use Rattle.format14_uvs.proofs.ChecksumLaws.{checksum-table, Summing, summing-end}
 use Rattle.format14_uvs.specs.NonDefault.{mapping, mappingAt, mappingBytes, keepsMapping, keptMappings, newNonDefault, missing, badMapping}
-use Rattle.format14_mapping.specs.Lent.{Count, New}
+use Rattle.format14_mapping.specs.Lent.{MappingCount, NewNumber}
 
 -- ---- the map
 
-pub new-in : (map : List ℕ) (g : ℕ) → g < length map → getD map g 0 < 256 ^ 2 → New map g (getD map g 0)
+pub new-in : (map : List ℕ) (g : ℕ) → g < length map → getD map g 0 < 256 ^ 2 → NewNumber map g (getD map g 0)
 new-in map g h l = record { is = getD-in map g 0 absent h; below = l }
 
-pub new-past : (map : List ℕ) (g : ℕ) → length map ≤ g → New map g absent
+pub new-past : (map : List ℕ) (g : ℕ) → length map ≤ g → NewNumber map g absent
 new-past map g h = record { is = sym (List·getD-eq-default map absent h); below = omega arith }
 
 -- a glyph is missing exactly where the map's entry, taken as absent past the end, is absent
@@ -73,7 +73,7 @@ module _ (xs : List ℕ) (p : ℕ) (kept map requested : List ℕ) (m : ℕ) whe
 pub ruleset judging = (judging-start, judging-yes, judging-no, judging-end)
 
 pub count-all : (xs : List ℕ) (p : ℕ) (kept requested : List ℕ) (m i k : ℕ) → Num 4 xs p m → Counting (keepsMapping kept requested) (mappingAt xs p) m i k → m ≤ i
-    → Count xs p kept requested k
+    → MappingCount xs p kept requested k
 count-all xs p kept requested m i k n l h = record {
   is = rw (n .is) at (counting-end (keepsMapping kept requested) (mappingAt xs p) m i k l h);
   below = omega (arith, l .few, l .within, n .below);
@@ -85,7 +85,7 @@ pub mapping-size : (map : List ℕ) (m : Pair) → length (mappingBytes map m) �
 mapping-size map m = rw (length-append, length-enc 3 (m .0), length-enc 2 (getD map (m .1) absent))
 
 -- one mapping more
-module _ (xs : List ℕ) (place : ℕ) (map : List ℕ) (g n : ℕ) (hg : Num 2 xs (place + 3) g) (hn : New map g n) (bad : Bool) where
+module _ (xs : List ℕ) (place : ℕ) (map : List ℕ) (g n : ℕ) (hg : Num 2 xs (place + 3) g) (hn : NewNumber map g n) (bad : Bool) where
   pub bad-one : n ≡ absent → true ≡ either bad (missing map (mapping xs place .1))
   bad-one e = rw (missing-absent map (be 2 xs (place + 3)), ← hg .is, ← hn .is, eq-eqb n absent e) (sym (any bad))
     where
@@ -98,7 +98,7 @@ module _ (xs : List ℕ) (place : ℕ) (map : List ℕ) (g n : ℕ) (hg : Num 2 
 
 pub ruleset bads = (bad-one, bad-same)
 
-pub mix-is : (xs : List ℕ) (place : ℕ) (map : List ℕ) (sum c g n r : ℕ) → Num 3 xs place c → Num 2 xs (place + 3) g → New map g n
+pub mix-is : (xs : List ℕ) (place : ℕ) (map : List ℕ) (sum c g n r : ℕ) → Num 3 xs place c → Num 2 xs (place + 3) g → NewNumber map g n
     → r ≡ stirred sum (c * 65536 + n) → r ≡ mixed 5 sum (mappingBytes map (mapping xs place))
 unfolding gathered enc
 mix-is xs place map sum c g n r hc hg hn e =
@@ -128,7 +128,7 @@ sum-all xs p kept map requested m i sum n l h =
 -- ---- one mapping written
 
 -- the code point, then the new glyph behind it
-pub copy-is : (xs : List ℕ) (place : ℕ) (map out mid fin : List ℕ) (to c g n : ℕ) → Num 3 xs place c → Num 2 xs (place + 3) g → New map g n
+pub copy-is : (xs : List ℕ) (place : ℕ) (map out mid fin : List ℕ) (to c g n : ℕ) → Num 3 xs place c → Num 2 xs (place + 3) g → NewNumber map g n
     → mid ≡ put 3 out to c → fin ≡ put 2 mid (to + 3) n → fin ≡ sets out to (mappingBytes map (mapping xs place))
 unfolding put
 copy-is xs place map out mid fin to c g n hc hg hn e d =

@@ -6,11 +6,11 @@ ghost use lib.Seq.{sets};
 ghost use Rattle.laws.specs.Choice.{either};
 ghost use Rattle.format14_uvs.specs.Checksum.{mixed};
 ghost use Rattle.format14_uvs.specs.NonDefault.{mapping, mappingBytes, missing};
-ghost use Rattle.format14_mapping.specs.Lent.{New};
+ghost use Rattle.format14_mapping.specs.Lent.{NewNumber};
 
 // The new glyph of an old one; 65,535 where the map has none.
 pub fn new_glyph(map: &[u16], old: u32) -> u16
-    ensures { λ r. ⌜ New (now (map .entry)) old r ⌝ }
+    ensures { λ r. ⌜ NewNumber (now (map .entry)) old r ⌝ }
 {
     if (old as usize) < map.len() {
         return map[old as usize];

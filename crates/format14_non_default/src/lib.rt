@@ -10,7 +10,7 @@ ghost use Rattle.lists_marks.specs.Marks.{Bound};
 ghost use Rattle.format14_uvs.specs.Checksum.{checksum};
 ghost use Rattle.format14_uvs.specs.NonDefault.{keptMappings, mappingBytes, newNonDefault, badMapping};
 ghost use Rattle.laws.specs.Lists.{Rising};
-ghost use Rattle.format14_mapping.specs.Lent.{Table, Count};
+ghost use Rattle.format14_mapping.specs.Lent.{NonDefaultLent, MappingCount};
 
 // How many kept points are below c: by places noted of them, or with none from `near` on.
 fn count_for(kept: &[u32], c: u32, places: &[u32], near: usize) -> usize
@@ -39,7 +39,7 @@ fn measure_by(
     requested: &[u16],
     places: &[u32],
 ) -> NonDefaultMeasure
-    requires { ⌜ Table (now s) p (now kept) (now requested) ⌝ }
+    requires { ⌜ NonDefaultLent (now s) p (now kept) (now requested) ⌝ }
     ensures { λ r. ⌜ r .size ≡ length (newNonDefault (now (s .entry)) p (now (kept .entry)) (now (map .entry)) (now (requested .entry))) ⌝ }
     ensures { λ r. ⌜ r .sum ≡ checksum 5 (newNonDefault (now (s .entry)) p (now (kept .entry)) (now (map .entry)) (now (requested .entry))) ⌝ }
     ensures { λ r. ⌜ r .bad ≡ badMapping (now (s .entry)) p (now (kept .entry)) (now (map .entry)) (now (requested .entry)) ⌝ }
@@ -85,7 +85,7 @@ fn measure_many(
     map: &[u16],
     requested: &[u16],
 ) -> NonDefaultMeasure
-    requires { ⌜ Table (now s) p (now kept) (now requested) ⌝ }
+    requires { ⌜ NonDefaultLent (now s) p (now kept) (now requested) ⌝ }
     ensures { λ r. ⌜ r .size ≡ length (newNonDefault (now (s .entry)) p (now (kept .entry)) (now (map .entry)) (now (requested .entry))) ⌝ }
     ensures { λ r. ⌜ r .sum ≡ checksum 5 (newNonDefault (now (s .entry)) p (now (kept .entry)) (now (map .entry)) (now (requested .entry))) ⌝ }
     ensures { λ r. ⌜ r .bad ≡ badMapping (now (s .entry)) p (now (kept .entry)) (now (map .entry)) (now (requested .entry)) ⌝ }
@@ -103,7 +103,7 @@ pub fn measure_non_default(
     map: &[u16],
     requested: &[u16],
 ) -> NonDefaultMeasure
-    requires { ⌜ Table (now s) p (now kept) (now requested) ⌝ }
+    requires { ⌜ NonDefaultLent (now s) p (now kept) (now requested) ⌝ }
     ensures { λ r. ⌜ r .size ≡ length (newNonDefault (now (s .entry)) p (now (kept .entry)) (now (map .entry)) (now (requested .entry))) ⌝ }
     ensures { λ r. ⌜ r .sum ≡ checksum 5 (newNonDefault (now (s .entry)) p (now (kept .entry)) (now (map .entry)) (now (requested .entry))) ⌝ }
     ensures { λ r. ⌜ r .bad ≡ badMapping (now (s .entry)) p (now (kept .entry)) (now (map .entry)) (now (requested .entry)) ⌝ }
@@ -126,9 +126,9 @@ fn copy_by(
     requested: &[u16],
     places: &[u32],
 ) -> usize
-    requires { ⌜ Table (now s) p (now kept) (now requested) ⌝ }
+    requires { ⌜ NonDefaultLent (now s) p (now kept) (now requested) ⌝ }
     requires { ⌜ to + length (flat (mappingBytes (now map)) (keptMappings (now s) p (now kept) (now requested))) ≤ length (now out) ⌝ }
-    ensures { λ r. ⌜ Count (now (s .entry)) p (now (kept .entry)) (now (requested .entry)) r ⌝ }
+    ensures { λ r. ⌜ MappingCount (now (s .entry)) p (now (kept .entry)) (now (requested .entry)) r ⌝ }
     ensures { λ _. ⌜ now (out .exit) ≡ sets (now (out .entry)) to (flat (mappingBytes (now (map .entry))) (keptMappings (now (s .entry)) p (now (kept .entry)) (now (requested .entry)))) ⌝ }
 {
     let m = number::u32_at(s, p) as usize;
@@ -158,9 +158,9 @@ fn copy_many(
     map: &[u16],
     requested: &[u16],
 ) -> usize
-    requires { ⌜ Table (now s) p (now kept) (now requested) ⌝ }
+    requires { ⌜ NonDefaultLent (now s) p (now kept) (now requested) ⌝ }
     requires { ⌜ to + length (flat (mappingBytes (now map)) (keptMappings (now s) p (now kept) (now requested))) ≤ length (now out) ⌝ }
-    ensures { λ r. ⌜ Count (now (s .entry)) p (now (kept .entry)) (now (requested .entry)) r ⌝ }
+    ensures { λ r. ⌜ MappingCount (now (s .entry)) p (now (kept .entry)) (now (requested .entry)) r ⌝ }
     ensures { λ _. ⌜ now (out .exit) ≡ sets (now (out .entry)) to (flat (mappingBytes (now (map .entry))) (keptMappings (now (s .entry)) p (now (kept .entry)) (now (requested .entry)))) ⌝ }
 {
     let mut places = [0u32; PLACES];
@@ -178,9 +178,9 @@ fn copy_mappings(
     map: &[u16],
     requested: &[u16],
 ) -> usize
-    requires { ⌜ Table (now s) p (now kept) (now requested) ⌝ }
+    requires { ⌜ NonDefaultLent (now s) p (now kept) (now requested) ⌝ }
     requires { ⌜ to + length (flat (mappingBytes (now map)) (keptMappings (now s) p (now kept) (now requested))) ≤ length (now out) ⌝ }
-    ensures { λ r. ⌜ Count (now (s .entry)) p (now (kept .entry)) (now (requested .entry)) r ⌝ }
+    ensures { λ r. ⌜ MappingCount (now (s .entry)) p (now (kept .entry)) (now (requested .entry)) r ⌝ }
     ensures { λ _. ⌜ now (out .exit) ≡ sets (now (out .entry)) to (flat (mappingBytes (now (map .entry))) (keptMappings (now (s .entry)) p (now (kept .entry)) (now (requested .entry)))) ⌝ }
 {
     if number::u32_at(s, p) as usize >= MANY {
@@ -200,7 +200,7 @@ pub fn copy_non_default_uvs(
     map: &[u16],
     requested: &[u16],
 )
-    requires { ⌜ Table (now s) p (now kept) (now requested) ⌝ }
+    requires { ⌜ NonDefaultLent (now s) p (now kept) (now requested) ⌝ }
     requires { ⌜ to + length (newNonDefault (now s) p (now kept) (now map) (now requested)) ≤ length (now out) ⌝ }
     ensures { λ _. ⌜ now (out .exit) ≡ sets (now (out .entry)) to (newNonDefault (now (s .entry)) p (now (kept .entry)) (now (map .entry)) (now (requested .entry))) ⌝ }
 {

@@ -15,10 +15,10 @@ use Rattle.laws.proofs.EitherLaws.{either-none}
 use Rattle.laws.proofs.SelectLaws.{any-select}
 use Rattle.number.specs.BigEndian.{be}
 use Rattle.format14_uvs.specs.Checksum.{checksum}
-use Rattle.format14.specs.Selectors.{Given, given, keepsSelector, badRecord, badKeptRecord, namesMissing}
-use Rattle.format14.specs.ByNumber.{slot, badSlot, Source, Readable, Size, Lengths, Sums, tableMax}
+use Rattle.format14.specs.Selectors.{Job14, job14, keepsSelector, badRecord, badKeptRecord, namesMissing}
+use Rattle.format14.specs.ByNumber.{slot, badSlot, SourceOffset, Readable, SlotLength, Lengths, Sums, tableMax}
 use Rattle.format14.proofs.ByNumberLaws.{slot-like, bad-like}
-use Rattle.format14_places.specs.Measuring.{Sources, Earlier, Refused}
+use Rattle.format14_places.specs.Measuring.{Sources, EarlierTable, SomeSlotBad}
 
 -- ---- refusal 8
 
@@ -50,7 +50,7 @@ module _ (p : ℕ → Bool) where
       rw (some-has t u (i + 1) (omega arith) (rw next at e)) (either-true (p i))
 
 -- the tables of n records from k on, asked in place of the records
-refused-pairs : (g : Given) (n k : ℕ) → some (badSlot g) (2 * n) (2 * k) ≡ some (badKeptRecord g) n k
+refused-pairs : (g : Job14) (n k : ℕ) → some (badSlot g) (2 * n) (2 * k) ≡ some (badKeptRecord g) n k
 unfolding some badSlot
 refused-pairs g zero k = refl
 refused-pairs g (suc n) k =
@@ -61,27 +61,27 @@ refused-pairs g (suc n) k =
     let next : 2 * k + 1 + 1 ≡ 2 * (k + 1) = omega arith in
     rw (two, even, odd, half, next, refused-pairs g n (k + 1))
 
-module _ (g : Given) where
-  pub refused-start : Refused g 0 false
+module _ (g : Job14) where
+  pub refused-start : SomeSlotBad g 0 false
   unfolding some
   refused-start = record { is = refl }
 
-  module _ (t : ℕ) (b : Bool) (r : Refused g t b) where
+  module _ (t : ℕ) (b : Bool) (r : SomeSlotBad g t b) where
     more : some (badSlot g) (t + 1) 0 ≡ either b (badSlot g t)
     more =
         let z : 0 + t ≡ t = omega arith in
         rw (add-one t, some-last (badSlot g) t 0, z, ← r .is)
 
-    pub refused-bad : (d : Bool) → d ≡ badSlot g t → d ≡ true → Refused g (t + 1) true
+    pub refused-bad : (d : Bool) → d ≡ badSlot g t → d ≡ true → SomeSlotBad g (t + 1) true
     refused-bad d e y = record { is = sym (more ∙ rw (← e, y) (either-true b)) }
 
-    pub refused-good : (d : Bool) → d ≡ badSlot g t → d ≡ false → Refused g (t + 1) b
+    pub refused-good : (d : Bool) → d ≡ badSlot g t → d ≡ false → SomeSlotBad g (t + 1) b
     refused-good d e n = record { is = sym (more ∙ rw (← e, n) (either-none b)) }
 
     -- a table like an earlier one says nothing new
-    refused-like : (u : ℕ) → u < t → badSlot g u ≡ badSlot g t → Refused g (t + 1) b
+    refused-like : (u : ℕ) → u < t → badSlot g u ≡ badSlot g t → SomeSlotBad g (t + 1) b
     refused-like u h e =
-        by-test (Refused g (t + 1) b) (badSlot g t)
+        by-test (SomeSlotBad g (t + 1) b) (badSlot g t)
         (λ y.
         let z : 0 + u ≡ u = omega arith in
         let all : b ≡ true = r .is ∙ some-has (badSlot g) t u 0 h (rw z (e ∙ y)) in
@@ -118,7 +118,7 @@ set-each P l t v r h p j b =
     rw (same, getD-set-same l t v 0 r) p)
     (λ a. rw (getD-set-other l t j v 0 (λ e. omega arith)) (h j a))
 
-pub measuring-on : (g : Given) (m t : ℕ) (ls ss : List ℕ) (r sum : ℕ) → Measuring (slot g) m t ls ss → t < m → Size g t r → sum ≡ checksum (4 + t % 2) (slot g t) → Measuring (slot g) m (t + 1) (set ls t r) (set ss t sum)
+pub measuring-on : (g : Job14) (m t : ℕ) (ls ss : List ℕ) (r sum : ℕ) → Measuring (slot g) m t ls ss → t < m → SlotLength g t r → sum ≡ checksum (4 + t % 2) (slot g t) → Measuring (slot g) m (t + 1) (set ls t r) (set ss t sum)
 measuring-on g m t ls ss r sum p h z e = record {
   within = omega arith;
   room = rw length-set (p .room);
@@ -148,14 +148,14 @@ module _ (xs : List ℕ) (at len : ℕ) (kept : List ℕ) (ps : List ℕ) where
   pub sources-start : Sources xs at len kept 0 ps
   sources-start = record { room = omega arith; each = λ j l. absurd (omega arith) }
 
-  pub sources-on : (t off : ℕ) → Sources xs at len kept t ps → t < length ps → Source xs at len kept t off → Sources xs at len kept (t + 1) (set ps t off)
-  sources-on t off q h s = record { room = rw length-set (omega arith); each = set-each (Source xs at len kept) ps t off h (q .each) s }
+  pub sources-on : (t off : ℕ) → Sources xs at len kept t ps → t < length ps → SourceOffset xs at len kept t off → Sources xs at len kept (t + 1) (set ps t off)
+  sources-on t off q h s = record { room = rw length-set (omega arith); each = set-each (SourceOffset xs at len kept) ps t off h (q .each) s }
 
 -- all tables are asked
 pub refused-all : (xs : List ℕ) (at len : ℕ) (kept map requested : List ℕ) (m t : ℕ) (b : Bool) (ls ss : List ℕ) → m ≡ 2 * be 4 xs (at + 6)
-    → Measuring (slot (given xs at len kept map requested)) m t ls ss → Refused (given xs at len kept map requested) t b → m ≤ t → b ≡ namesMissing (given xs at len kept map requested)
+    → Measuring (slot (job14 xs at len kept map requested)) m t ls ss → SomeSlotBad (job14 xs at len kept map requested) t b → m ≤ t → b ≡ namesMissing (job14 xs at len kept map requested)
 refused-all xs at len kept map requested m t b ls ss a p r h =
-    let g = given xs at len kept map requested in
+    let g = job14 xs at len kept map requested in
     let n = be 4 xs (at + 6) in
     let two : t ≡ 2 * n = omega (arith, a, p .within) in
     let z : 2 * 0 ≡ 0 = omega arith in
@@ -166,15 +166,15 @@ pub ruleset measuring = (measuring-start, measuring-on, measured-lengths, measur
 pub ruleset before = (lengths-before, sums-before)
 
 -- a table from the place of an earlier one of its sort
-module _ (xs : List ℕ) (at len : ℕ) (kept map requested : List ℕ) (t off u : ℕ) (ps : List ℕ) (r : Readable xs at len kept requested) (s : Source xs at len kept t off)
-    (q : Sources xs at len kept t ps) (e : Earlier ps t off u) (h : u < t) where
-  abbrev like : Given
-  like = given xs at len kept map requested
+module _ (xs : List ℕ) (at len : ℕ) (kept map requested : List ℕ) (t off u : ℕ) (ps : List ℕ) (r : Readable xs at len kept requested) (s : SourceOffset xs at len kept t off)
+    (q : Sources xs at len kept t ps) (e : EarlierTable ps t off u) (h : u < t) where
+  abbrev like : Job14
+  like = job14 xs at len kept map requested
 
-  source-like : Source xs at len kept u off
+  source-like : SourceOffset xs at len kept u off
   source-like = rw (e .place h) at (q .each u h)
 
-  pub size-like : (ls : List ℕ) → Lengths (slot like) t ls → Size like t (getD ls u 0)
+  pub size-like : (ls : List ℕ) → Lengths (slot like) t ls → SlotLength like t (getD ls u 0)
   size-like ls l = record {
     is = l .each u h ∙ ap (λ (x : List ℕ). length x) (slot-like xs at len kept map requested u t off r source-like s (e .sort));
     below = l .small u h;
@@ -183,7 +183,7 @@ module _ (xs : List ℕ) (at len : ℕ) (kept map requested : List ℕ) (t off u
   pub sum-like : (ss : List ℕ) → Sums (slot like) t ss → getD ss u 0 ≡ checksum (4 + t % 2) (slot like t)
   sum-like ss l = rw (e .sort) at (l .each u h) ∙ ap (λ (x : List ℕ). checksum (4 + t % 2) x) (slot-like xs at len kept map requested u t off r source-like s (e .sort))
 
-  pub refused-same : (b : Bool) → Refused like t b → Refused like (t + 1) b
+  pub refused-same : (b : Bool) → SomeSlotBad like t b → SomeSlotBad like (t + 1) b
   refused-same b d = refused-like like t b d u h (bad-like xs at len kept map requested u t off r source-like s (e .sort))
 
 pub ruleset refusing = (refused-start, refused-bad, refused-good, refused-same)

@@ -16,16 +16,16 @@ use Rattle.laws.proofs.EqListLaws.{eq-true}
 use Rattle.laws.proofs.LastsLaws.{length-concat}
 use Rattle.number.specs.BigEndian.{be}
 use Rattle.format14.specs.ByNumber.{tableMax, Readable, Lengths}
-use Rattle.format14.specs.Ends.{from, Written, laterEqual, Ends, Total}
+use Rattle.format14.specs.Ends.{from, writtenFrom, laterEqual, Ends, Total}
 use Rattle.format14.proofs.SlotsLaws.{from-apart, written-missing, written-again, written-new, behind-missing, behind-new, among-from}
 
 -- the tables from k on have their distances, and tail is the length of those written
 pub record Placing (f : ℕ → List ℕ) (m k : ℕ) (ends : List ℕ) (tail : ℕ) : Type 0 where
   pub within : k ≤ m
   pub room : m ≤ length ends
-  pub total : tail ≡ length (concat (Written f m k))
+  pub total : tail ≡ length (concat (writtenFrom f m k))
   pub few : tail ≤ tableMax * (m - k)
-  pub each : (j : ℕ) → k ≤ j → j < m → getD ends j 0 ≡ behind (f j) (Written f m 0)
+  pub each : (j : ℕ) → k ≤ j → j < m → getD ends j 0 ≡ behind (f j) (writtenFrom f m 0)
 
 pub placing-start : (f : ℕ → List ℕ) (m k : ℕ) (ends : List ℕ) → k ≡ m → m ≤ length ends → Placing f m k ends 0
 unfolding from lasts concat
@@ -35,9 +35,9 @@ placing-start f m k ends s h =
 
 module _ (f : ℕ → List ℕ) (m k : ℕ) (ends : List ℕ) (tail : ℕ) (ls : List ℕ) (p : Placing f m k ends tail) (q : Lengths f m ls) (h : 0 < k) where
   -- the distance of one more table
-  each-more : (v : ℕ) → v ≡ behind (f (k - 1)) (Written f m 0) → (j : ℕ) → k - 1 ≤ j → j < m → getD (set ends (k - 1) v) j 0 ≡ behind (f j) (Written f m 0)
+  each-more : (v : ℕ) → v ≡ behind (f (k - 1)) (writtenFrom f m 0) → (j : ℕ) → k - 1 ≤ j → j < m → getD (set ends (k - 1) v) j 0 ≡ behind (f j) (writtenFrom f m 0)
   each-more v e j a b =
-      by-leb (getD (set ends (k - 1) v) j 0 ≡ behind (f j) (Written f m 0)) j (k - 1)
+      by-leb (getD (set ends (k - 1) v) j 0 ≡ behind (f j) (writtenFrom f m 0)) j (k - 1)
       (λ l.
       let same : j ≡ k - 1 = omega arith in
       rw same (getD-set-same ends (k - 1) v 0 (omega (arith, p .room, p .within)) ∙ e))
@@ -82,7 +82,7 @@ module _ (f : ℕ → List ℕ) (m k : ℕ) (ends : List ℕ) (tail : ℕ) (ls :
           room = rw length-set (p .room);
           total = rw same (p .total);
           few = omega (arith, p .few, p .within);
-          each = each-more (getD ends j 0) (p .each j (omega (arith, e)) l ∙ ap (λ u. behind u (Written f m 0)) (sym equal));
+          each = each-more (getD ends j 0) (p .each j (omega (arith, e)) l ∙ ap (λ u. behind u (writtenFrom f m 0)) (sym equal));
         }
 
     placing-new : m ≤ j → Placing f m (k - 1) (set ends (k - 1) (tail + getD ls (k - 1) 0)) (tail + getD ls (k - 1) 0)
@@ -95,7 +95,7 @@ module _ (f : ℕ → List ℕ) (m k : ℕ) (ends : List ℕ) (tail : ℕ) (ls :
         record {
           within = omega (arith, p .within);
           room = rw length-set (p .room);
-          total = rw (fresh, length-concat (f (k - 1)) (Written f m k)) (omega (arith, p .total, length-is));
+          total = rw (fresh, length-concat (f (k - 1)) (writtenFrom f m k)) (omega (arith, p .total, length-is));
           few = omega (arith, p .few, p .within, q .small (k - 1) inside);
           each = each-more (tail + getD ls (k - 1) 0) (omega (arith, far, p .total, length-is));
         }

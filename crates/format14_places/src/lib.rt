@@ -5,16 +5,17 @@ ghost use mathlib.Core.Path.{_≡_};
 ghost use Prim.Native.Nat.{_+_, _%_, _≤_, _*_, _<_};
 ghost use lib.ListN.{length, getD};
 ghost use Rattle.format14_uvs.specs.Checksum.{checksum};
-ghost use Rattle.format14.specs.Selectors.{given, selectorRecords, namesMissing};
-ghost use Rattle.format14.specs.ByNumber.{slot, Source, Readable, Numbered, Size, Lengths, Sums};
-ghost use Rattle.format14_places.specs.Measuring.{Sources, Earlier, Refused};
+ghost use Rattle.format14.specs.Selectors.{job14, selectorRecords, namesMissing};
+ghost use Rattle.format14.specs.ByNumber.{slot, SourceOffset, Readable, Numbered, SlotLength, Lengths, Sums};
+ghost use Rattle.format14_places.specs.Measuring.{Sources, EarlierTable, SomeSlotBad};
 ghost use Rattle.laws.specs.Select.{eqList};
 ghost use Rattle.format14.specs.Ends.{laterEqual, Ends, Total};
+ghost use Rattle.number.specs.Limits.{tablesMax};
 
 // The last table before t, of t's sort, whose source stands at `off`; t if there is none.
 fn earlier(sources: &[usize], t: usize, off: usize) -> usize
     requires { ⌜ t ≤ length (now sources) ⌝ }
-    ensures { λ r. ⌜ Earlier (now (sources .entry)) t off r ⌝ }
+    ensures { λ r. ⌜ EarlierTable (now (sources .entry)) t off r ⌝ }
 {
     let mut u = t;
     while 2 <= u {
@@ -50,10 +51,10 @@ fn measure_one(
 ) -> Measured
     requires { ⌜ Readable (now s) (subtable .at) (subtable .len) (now kept) (now requested) ⌝ }
     requires { ⌜ Numbered (now s) (subtable .at) (now kept) (now flags) t ⌝ }
-    requires { ⌜ (let g = given (now s) (subtable .at) (subtable .len) (now kept) (now map) (now requested) in Lengths (slot g) t (now lengths) × (Sums (slot g) t (now sums) × Refused g t refused)) ⌝ }
+    requires { ⌜ (let g = job14 (now s) (subtable .at) (subtable .len) (now kept) (now map) (now requested) in Lengths (slot g) t (now lengths) × (Sums (slot g) t (now sums) × SomeSlotBad g t refused)) ⌝ }
     requires { ⌜ Sources (now s) (subtable .at) (subtable .len) (now kept) t (now sources) ⌝ }
-    ensures { λ r. ⌜ (let g = given (now (s .entry)) (subtable .at) (subtable .len) (now (kept .entry)) (now (map .entry)) (now (requested .entry)) in Size g t (r .size) × ((r .sum ≡ checksum (4 + t % 2) (slot g t)) × Refused g (t + 1) (r .refused))) ⌝ }
-    ensures { λ r. ⌜ Source (now (s .entry)) (subtable .at) (subtable .len) (now (kept .entry)) t (r .source) ⌝ }
+    ensures { λ r. ⌜ (let g = job14 (now (s .entry)) (subtable .at) (subtable .len) (now (kept .entry)) (now (map .entry)) (now (requested .entry)) in SlotLength g t (r .size) × ((r .sum ≡ checksum (4 + t % 2) (slot g t)) × SomeSlotBad g (t + 1) (r .refused))) ⌝ }
+    ensures { λ r. ⌜ SourceOffset (now (s .entry)) (subtable .at) (subtable .len) (now (kept .entry)) t (r .source) ⌝ }
 {
     let off = format14_tables::source_table(s, subtable, kept, requested, t);
     let u = earlier(sources, t, off);
@@ -98,11 +99,11 @@ pub fn measure(
 ) -> bool
     requires { ⌜ Readable (now s) (subtable .at) (subtable .len) (now kept) (now requested) ⌝ }
     requires { ⌜ length (now kept) ≤ length (now flags) ⌝ }
-    requires { ⌜ (1024 ≤ length (now lengths)) × (1024 ≤ length (now sums)) ⌝ }
-    ensures { λ r. ⌜ (let g = given (now (s .entry)) (subtable .at) (subtable .len) (now (kept .entry)) (now (map .entry)) (now (requested .entry)) in (r ≡ namesMissing g) × (Lengths (slot g) (2 * selectorRecords g) (now (lengths .exit)) × Sums (slot g) (2 * selectorRecords g) (now (sums .exit)))) ⌝ }
+    requires { ⌜ (tablesMax ≤ length (now lengths)) × (tablesMax ≤ length (now sums)) ⌝ }
+    ensures { λ r. ⌜ (let g = job14 (now (s .entry)) (subtable .at) (subtable .len) (now (kept .entry)) (now (map .entry)) (now (requested .entry)) in (r ≡ namesMissing g) × (Lengths (slot g) (2 * selectorRecords g) (now (lengths .exit)) × Sums (slot g) (2 * selectorRecords g) (now (sums .exit)))) ⌝ }
 {
     let m = format14_tables::count_tables(s, subtable);
-    let mut sources = [0usize; 1024];
+    let mut sources = [0usize; number::limits::TABLES_MAX];
     let mut t = 0;
     let mut refused = false;
     while t < m {
@@ -145,9 +146,9 @@ fn equal_tables(
     requires { ⌜ Readable (now s) (subtable .at) (subtable .len) (now kept) (now requested) ⌝ }
     requires { ⌜ Numbered (now s) (subtable .at) (now kept) (now flags) t ⌝ }
     requires { ⌜ Numbered (now s) (subtable .at) (now kept) (now others) j ⌝ }
-    requires { ⌜ (let g = given (now s) (subtable .at) (subtable .len) (now kept) (now map) (now requested) in Lengths (slot g) (2 * selectorRecords g) (now lengths) × Sums (slot g) (2 * selectorRecords g) (now sums)) ⌝ }
+    requires { ⌜ (let g = job14 (now s) (subtable .at) (subtable .len) (now kept) (now map) (now requested) in Lengths (slot g) (2 * selectorRecords g) (now lengths) × Sums (slot g) (2 * selectorRecords g) (now sums)) ⌝ }
     requires { ⌜ 0 < getD (now lengths) t 0 ⌝ }
-    ensures { λ r. ⌜ (let g = given (now (s .entry)) (subtable .at) (subtable .len) (now (kept .entry)) (now (map .entry)) (now (requested .entry)) in r ≡ eqList (slot g t) (slot g j)) ⌝ }
+    ensures { λ r. ⌜ (let g = job14 (now (s .entry)) (subtable .at) (subtable .len) (now (kept .entry)) (now (map .entry)) (now (requested .entry)) in r ≡ eqList (slot g t) (slot g j)) ⌝ }
 {
     if format14_sharing::alike(lengths, sums, t, j) {
         return format14_tables::same_table(s, subtable, kept, map, requested, flags, others, t, j);
@@ -171,9 +172,9 @@ fn later_equal(
     requires { ⌜ Readable (now s) (subtable .at) (subtable .len) (now kept) (now requested) ⌝ }
     requires { ⌜ Numbered (now s) (subtable .at) (now kept) (now flags) t ⌝ }
     requires { ⌜ length (now kept) ≤ length (now others) ⌝ }
-    requires { ⌜ (let g = given (now s) (subtable .at) (subtable .len) (now kept) (now map) (now requested) in Lengths (slot g) (2 * selectorRecords g) (now lengths) × Sums (slot g) (2 * selectorRecords g) (now sums)) ⌝ }
+    requires { ⌜ (let g = job14 (now s) (subtable .at) (subtable .len) (now kept) (now map) (now requested) in Lengths (slot g) (2 * selectorRecords g) (now lengths) × Sums (slot g) (2 * selectorRecords g) (now sums)) ⌝ }
     requires { ⌜ 0 < getD (now lengths) t 0 ⌝ }
-    ensures { λ r. ⌜ (let g = given (now (s .entry)) (subtable .at) (subtable .len) (now (kept .entry)) (now (map .entry)) (now (requested .entry)) in r ≡ laterEqual (slot g) (2 * selectorRecords g) t) ⌝ }
+    ensures { λ r. ⌜ (let g = job14 (now (s .entry)) (subtable .at) (subtable .len) (now (kept .entry)) (now (map .entry)) (now (requested .entry)) in r ≡ laterEqual (slot g) (2 * selectorRecords g) t) ⌝ }
 {
     let m = format14_tables::count_tables(s, subtable);
     let mut j = t + 1;
@@ -215,9 +216,9 @@ pub fn place_tables(
 ) -> usize
     requires { ⌜ Readable (now s) (subtable .at) (subtable .len) (now kept) (now requested) ⌝ }
     requires { ⌜ (length (now kept) ≤ length (now flags)) × (length (now kept) ≤ length (now others)) ⌝ }
-    requires { ⌜ (let g = given (now s) (subtable .at) (subtable .len) (now kept) (now map) (now requested) in Lengths (slot g) (2 * selectorRecords g) (now lengths) × Sums (slot g) (2 * selectorRecords g) (now sums)) ⌝ }
-    requires { ⌜ 1024 ≤ length (now ends) ⌝ }
-    ensures { λ r. ⌜ (let g = given (now (s .entry)) (subtable .at) (subtable .len) (now (kept .entry)) (now (map .entry)) (now (requested .entry)) in Ends (slot g) (2 * selectorRecords g) (now (ends .exit)) × Total (slot g) (2 * selectorRecords g) r) ⌝ }
+    requires { ⌜ (let g = job14 (now s) (subtable .at) (subtable .len) (now kept) (now map) (now requested) in Lengths (slot g) (2 * selectorRecords g) (now lengths) × Sums (slot g) (2 * selectorRecords g) (now sums)) ⌝ }
+    requires { ⌜ tablesMax ≤ length (now ends) ⌝ }
+    ensures { λ r. ⌜ (let g = job14 (now (s .entry)) (subtable .at) (subtable .len) (now (kept .entry)) (now (map .entry)) (now (requested .entry)) in Ends (slot g) (2 * selectorRecords g) (now (ends .exit)) × Total (slot g) (2 * selectorRecords g) r) ⌝ }
 {
     let m = format14_tables::count_tables(s, subtable);
     let mut tail = 0;

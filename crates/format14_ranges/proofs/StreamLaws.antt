@@ -19,20 +19,20 @@ use Rattle.lists_marks.specs.Marks.{kept}
 use Rattle.format14_uvs.specs.Checksum.{stirred, gathered, mixed}
 use Rattle.format14_uvs.proofs.ChecksumLaws.{mixed-append}
 use Rattle.format14_uvs.specs.Default.{follow, longest, rangeBytes}
-use Rattle.format14_ranges.specs.Stream.{points, records, Beside, Point, Start, Next, Count}
+use Rattle.format14_ranges.specs.Stream.{flaggedPoints, records, KeptFlagged, NextFlagged, FlaggedPlace, NextRange, RangeCount}
 
 -- ---- the points from a place on
 
 module _ (ks fs : List ℕ) (i : ℕ) where
-  pub points-yes : i < length ks → length ks ≤ length fs → (getD fs i 0 ≡ 0 → ⊥) → points ks fs i ≡ getD ks i 0 ∷ points ks fs (i + 1)
+  pub points-yes : i < length ks → length ks ≤ length fs → (getD fs i 0 ≡ 0 → ⊥) → flaggedPoints ks fs i ≡ getD ks i 0 ∷ flaggedPoints ks fs (i + 1)
   unfolding kept
   points-yes h b f = rw (add-one i, drop-cons ks i 0 h, drop-cons fs i 0 (omega arith), ne-eqb (getD fs i 0) 0 f)
 
-  pub points-no : i < length ks → length ks ≤ length fs → getD fs i 0 ≡ 0 → points ks fs i ≡ points ks fs (i + 1)
+  pub points-no : i < length ks → length ks ≤ length fs → getD fs i 0 ≡ 0 → flaggedPoints ks fs i ≡ flaggedPoints ks fs (i + 1)
   unfolding kept
   points-no h b f = rw (add-one i, drop-cons ks i 0 h, drop-cons fs i 0 (omega arith), eq-eqb (getD fs i 0) 0 f)
 
-  pub points-end : length ks ≤ i → points ks fs i ≡ []
+  pub points-end : length ks ≤ i → flaggedPoints ks fs i ≡ []
   unfolding kept
   points-end h = rw (drop-of-length-le ks h) (none (drop i fs))
     where
@@ -45,7 +45,7 @@ module _ (ks fs : List ℕ) (i : ℕ) where
 pub record Seeking (ks fs : List ℕ) (i j : ℕ) : Type 0 where
   pub low : i ≤ j
   pub within : j ≤ length ks
-  pub same : points ks fs i ≡ points ks fs j
+  pub same : flaggedPoints ks fs i ≡ flaggedPoints ks fs j
 
 module _ (ks fs : List ℕ) (i : ℕ) where
   pub seeking-start : i ≤ length ks → Seeking ks fs i i
@@ -54,10 +54,10 @@ module _ (ks fs : List ℕ) (i : ℕ) where
   pub seeking-on : (j : ℕ) → Seeking ks fs i j → length ks ≤ length fs → j < length ks → getD fs j 0 ≡ 0 → Seeking ks fs i (j + 1)
   seeking-on j s b h f = record { low = omega (arith, s .low); within = omega arith; same = s .same ∙ points-no ks fs j h b f }
 
-  pub seeking-found : (j : ℕ) → Seeking ks fs i j → (getD fs j 0 ≡ 0 → ⊥) → Point ks fs i j
+  pub seeking-found : (j : ℕ) → Seeking ks fs i j → (getD fs j 0 ≡ 0 → ⊥) → NextFlagged ks fs i j
   seeking-found j s f = record { low = s .low; within = s .within; same = s .same; flag = λ h. f }
 
-  pub seeking-none : (j : ℕ) → Seeking ks fs i j → length ks ≤ j → Point ks fs i j
+  pub seeking-none : (j : ℕ) → Seeking ks fs i j → length ks ≤ j → NextFlagged ks fs i j
   seeking-none j s h = record { low = s .low; within = s .within; same = s .same; flag = λ l. absurd (omega arith) }
 
 pub ruleset seeking = (seeking-start, seeking-on, seeking-found, seeking-none)
@@ -114,42 +114,42 @@ pub record Taking (most : ℕ) (ks fs : List ℕ) (i a j : ℕ) : Type 0 where
   pub on : i < j
   pub within : j ≤ length ks
   pub flag : j < length ks → getD fs j 0 ≡ 0 → ⊥
-  pub left : begun most (getD ks i 0) a (points ks fs j) ≡ records most ks fs i
+  pub left : begun most (getD ks i 0) a (flaggedPoints ks fs j) ≡ records most ks fs i
 
 module _ (most : ℕ) (ks fs : List ℕ) (i : ℕ) where
-  pub taking-start : (j : ℕ) → Start ks fs i → Point ks fs (i + 1) j → Taking most ks fs i 0 j
+  pub taking-start : (j : ℕ) → FlaggedPlace ks fs i → NextFlagged ks fs (i + 1) j → Taking most ks fs i 0 j
   taking-start j s p = record {
     few = omega arith;
     on = omega (arith, p .low);
     within = p .within;
     flag = p .flag;
-    left = rw (← p .same) (sym (begun-start most (getD ks i 0) (points ks fs (i + 1))) ∙ ap (λ (l : List ℕ). longest most 0 l) (sym (points-yes ks fs i (s .within) (s .beside) (s .flag))));
+    left = rw (← p .same) (sym (begun-start most (getD ks i 0) (flaggedPoints ks fs (i + 1))) ∙ ap (λ (l : List ℕ). longest most 0 l) (sym (points-yes ks fs i (s .within) (s .beside) (s .flag))));
   }
 
-  module _ (a j : ℕ) (t : Taking most ks fs i a j) (s : Start ks fs i) where
-    pub taking-on : (b : Bool) (k : ℕ) → j < length ks → (a ≡ most → ⊥) → b ≡ eqb (getD ks j 0) (getD ks i 0 + a + 1) → b ≡ true → Point ks fs (j + 1) k → Taking most ks fs i (a + 1) k
+  module _ (a j : ℕ) (t : Taking most ks fs i a j) (s : FlaggedPlace ks fs i) where
+    pub taking-on : (b : Bool) (k : ℕ) → j < length ks → (a ≡ most → ⊥) → b ≡ eqb (getD ks j 0) (getD ks i 0 + a + 1) → b ≡ true → NextFlagged ks fs (j + 1) k → Taking most ks fs i (a + 1) k
     taking-on b k h f e y p = record {
       few = omega (arith, t .few);
       on = omega (arith, p .low, t .on);
       within = p .within;
       flag = p .flag;
       left =
-          rw (← p .same) (sym (begun-on most (getD ks i 0) a (getD ks j 0) (points ks fs (j + 1)) (omega (arith, t .few)) (sym e ∙ y))
+          rw (← p .same) (sym (begun-on most (getD ks i 0) a (getD ks j 0) (flaggedPoints ks fs (j + 1)) (omega (arith, t .few)) (sym e ∙ y))
           ∙ ap (λ (l : List ℕ). begun most (getD ks i 0) a l) (sym (points-yes ks fs j h (s .beside) (t .flag h))) ∙ t .left);
     }
 
-    taken : begun most (getD ks i 0) a (points ks fs j) ≡ (getD ks i 0, a) ∷ records most ks fs j → Next most ks fs i a j
+    taken : begun most (getD ks i 0) a (flaggedPoints ks fs j) ≡ (getD ks i 0, a) ∷ records most ks fs j → NextRange most ks fs i a j
     taken e = record { gives = sym (t .left) ∙ e; few = t .few; on = t .on; within = t .within; flag = t .flag }
 
-    pub taking-full : a ≡ most → Next most ks fs i a j
-    taking-full e = taken (begun-full most (getD ks i 0) a (points ks fs j) (omega arith))
+    pub taking-full : a ≡ most → NextRange most ks fs i a j
+    taking-full e = taken (begun-full most (getD ks i 0) a (flaggedPoints ks fs j) (omega arith))
 
-    pub taking-gap : (b : Bool) → j < length ks → b ≡ eqb (getD ks j 0) (getD ks i 0 + a + 1) → b ≡ false → Next most ks fs i a j
+    pub taking-gap : (b : Bool) → j < length ks → b ≡ eqb (getD ks j 0) (getD ks i 0 + a + 1) → b ≡ false → NextRange most ks fs i a j
     taking-gap b h e n =
         let d = points-yes ks fs j h (s .beside) (t .flag h) in
-        taken (rw d (begun-gap most (getD ks i 0) a (getD ks j 0) (points ks fs (j + 1)) (sym e ∙ n)))
+        taken (rw d (begun-gap most (getD ks i 0) a (getD ks j 0) (flaggedPoints ks fs (j + 1)) (sym e ∙ n)))
 
-    pub taking-end : length ks ≤ j → Next most ks fs i a j
+    pub taking-end : length ks ≤ j → NextRange most ks fs i a j
     taking-end h = taken (rw (points-end ks fs j h) (begun-end most (getD ks i 0) a))
 
 pub ruleset taking = (taking-start, taking-on, taking-full, taking-gap, taking-end)
@@ -162,13 +162,13 @@ pub record Standing (ks fs : List ℕ) (i : ℕ) : Type 0 where
   pub flag : i < length ks → getD fs i 0 ≡ 0 → ⊥
 
 module _ (most : ℕ) (ks fs : List ℕ) where
-  pub standing-start : (i : ℕ) → Point ks fs 0 i → Standing ks fs i
+  pub standing-start : (i : ℕ) → NextFlagged ks fs 0 i → Standing ks fs i
   standing-start i p = record { within = p .within; flag = p .flag }
 
-  pub standing-on : (i a j : ℕ) → Next most ks fs i a j → Standing ks fs j
+  pub standing-on : (i a j : ℕ) → NextRange most ks fs i a j → Standing ks fs j
   standing-on i a j n = record { within = n .within; flag = n .flag }
 
-  pub start-here : (i : ℕ) → Standing ks fs i → i < length ks → Beside ks fs → Start ks fs i
+  pub start-here : (i : ℕ) → Standing ks fs i → i < length ks → KeptFlagged ks fs → FlaggedPlace ks fs i
   start-here i s h b = record { beside = b .beside; within = h; flag = s .flag h }
 
   pub records-end : (i : ℕ) → length ks ≤ i → records most ks fs i ≡ []
@@ -182,19 +182,19 @@ pub record Counted (most : ℕ) (ks fs : List ℕ) (i k : ℕ) : Type 0 where
   pub left : k + length (records most ks fs i) ≡ length (records most ks fs 0)
 
 module _ (most : ℕ) (ks fs : List ℕ) (i : ℕ) where
-  pub counted-start : Point ks fs 0 i → Counted most ks fs i 0
+  pub counted-start : NextFlagged ks fs 0 i → Counted most ks fs i 0
   counted-start p = record { standing = standing-start most ks fs i p; few = omega arith; left = rw (p .same) (zero-add (length (records most ks fs i))) }
 
   module _ (k : ℕ) (l : Counted most ks fs i k) where
-    pub counted-here : i < length ks → Beside ks fs → Start ks fs i
+    pub counted-here : i < length ks → KeptFlagged ks fs → FlaggedPlace ks fs i
     counted-here h b = start-here most ks fs i (l .standing) h b
 
-    pub counted-on : (a j : ℕ) → Next most ks fs i a j → Counted most ks fs j (k + 1)
+    pub counted-on : (a j : ℕ) → NextRange most ks fs i a j → Counted most ks fs j (k + 1)
     counted-on a j n =
         let m = rw (n .gives) at (l .left) in
         record { standing = standing-on most ks fs i a j n; few = omega (arith, l .few, n .on); left = omega (arith, m) }
 
-    pub counted-end : length ks ≤ i → Beside ks fs → Count most ks fs k
+    pub counted-end : length ks ≤ i → KeptFlagged ks fs → RangeCount most ks fs k
     counted-end h b =
         let m = rw (records-end most ks fs i h) at (l .left) in
         record { is = omega (arith, m); below = omega (arith, l .few, l .standing .within, b .few) }
@@ -215,14 +215,14 @@ pub record Summed (most : ℕ) (ks fs : List ℕ) (i sum : ℕ) : Type 0 where
   pub left : mixed 4 sum (flat rangeBytes (records most ks fs i)) ≡ mixed 4 0 (flat rangeBytes (records most ks fs 0))
 
 module _ (most : ℕ) (ks fs : List ℕ) (i : ℕ) where
-  pub summed-start : Point ks fs 0 i → Summed most ks fs i 0
+  pub summed-start : NextFlagged ks fs 0 i → Summed most ks fs i 0
   summed-start p = record { standing = standing-start most ks fs i p; left = rw (p .same) }
 
   module _ (sum : ℕ) (l : Summed most ks fs i sum) where
-    pub summed-here : i < length ks → Beside ks fs → Start ks fs i
+    pub summed-here : i < length ks → KeptFlagged ks fs → FlaggedPlace ks fs i
     summed-here h b = start-here most ks fs i (l .standing) h b
 
-    pub summed-on : (a j next : ℕ) → Next most ks fs i a j → next ≡ mixed 4 sum (rangeBytes (getD ks i 0, a)) → Summed most ks fs j next
+    pub summed-on : (a j next : ℕ) → NextRange most ks fs i a j → next ≡ mixed 4 sum (rangeBytes (getD ks i 0, a)) → Summed most ks fs j next
     unfolding flat
     summed-on a j next n e =
         record { standing = standing-on most ks fs i a j n; left = rw (e, ← mixed-append 4 sum (rangeBytes (getD ks i 0, a)) (flat rangeBytes (records most ks fs j)) (omega arith) (range-size (getD ks i 0, a))) (rw (n .gives) at (l .left)) }
@@ -241,22 +241,22 @@ pub record Written (most : ℕ) (ks fs out₀ : List ℕ) (to : ℕ) (out : List
   pub left : sets out (to + 4 * k) (flat rangeBytes (records most ks fs i)) ≡ sets out₀ to (flat rangeBytes (records most ks fs 0))
 
 module _ (most : ℕ) (ks fs out₀ : List ℕ) (to : ℕ) where
-  pub written-start : (i : ℕ) → Point ks fs 0 i → to + length (flat rangeBytes (records most ks fs 0)) ≤ length out₀ → Written most ks fs out₀ to out₀ i 0
+  pub written-start : (i : ℕ) → NextFlagged ks fs 0 i → to + length (flat rangeBytes (records most ks fs 0)) ≤ length out₀ → Written most ks fs out₀ to out₀ i 0
   written-start i p r =
       let z : to + 4 * 0 ≡ to = omega arith in
       record { standing = standing-start most ks fs i p; same = refl; room = rw z (rw (p .same) at r); left = rw (z, ← p .same) }
 
   module _ (out : List ℕ) (i k : ℕ) (l : Written most ks fs out₀ to out i k) where
-    pub written-here : i < length ks → Beside ks fs → Start ks fs i
+    pub written-here : i < length ks → KeptFlagged ks fs → FlaggedPlace ks fs i
     written-here h b = start-here most ks fs i (l .standing) h b
 
-    pub written-room : (a j : ℕ) → Next most ks fs i a j → to + 4 * k + 4 ≤ length out
+    pub written-room : (a j : ℕ) → NextRange most ks fs i a j → to + 4 * k + 4 ≤ length out
     unfolding flat
     written-room a j n =
         let r = rw (n .gives, length-append, range-size (getD ks i 0, a)) at (l .room) in
         omega (arith, r)
 
-    pub written-on : (a j : ℕ) (next : List ℕ) → Next most ks fs i a j → next ≡ sets out (to + 4 * k) (rangeBytes (getD ks i 0, a)) → Written most ks fs out₀ to next j (k + 1)
+    pub written-on : (a j : ℕ) (next : List ℕ) → NextRange most ks fs i a j → next ≡ sets out (to + 4 * k) (rangeBytes (getD ks i 0, a)) → Written most ks fs out₀ to next j (k + 1)
     unfolding flat
     written-on a j next n e =
         let r = rw (n .gives, length-append, range-size (getD ks i 0, a)) at (l .room) in

@@ -4,7 +4,7 @@ ghost use Prim.Native.Nat.{_+_, _<_, _≤_};
 ghost use lib.ListN.{length};
 ghost use lib.Dec.{eqb};
 ghost use Rattle.format14_uvs.specs.Default.{bitLength};
-ghost use Rattle.format14_ranges.specs.Stream.{Point, Start, Next, mostOf};
+ghost use Rattle.format14_ranges.specs.Stream.{NextFlagged, FlaggedPlace, NextRange, mostOf};
 
 // The least b with r below 2^b.
 fn bit_length(r: u32) -> u64
@@ -29,7 +29,7 @@ fn follows(start: u32, additional: u32, c: u32) -> bool
 // The first flagged place from i on, or the number of points.
 pub fn next_point(kept: &[u32], flags: &[u8], i: usize) -> usize
     requires { ⌜ (length (now kept) ≤ length (now flags)) × (i ≤ length (now kept)) ⌝ }
-    ensures { λ r. ⌜ Point (now (kept .entry)) (now (flags .entry)) i r ⌝ }
+    ensures { λ r. ⌜ NextFlagged (now (kept .entry)) (now (flags .entry)) i r ⌝ }
 {
     let mut j = i;
     while j < kept.len() {
@@ -60,8 +60,8 @@ pub struct UnicodeRange {
 
 // The record that starts at the flagged place i.
 pub fn next_range(kept: &[u32], flags: &[u8], i: usize, most: u32) -> UnicodeRange
-    requires { ⌜ Start (now kept) (now flags) i ⌝ }
-    ensures { λ r. ⌜ Next most (now (kept .entry)) (now (flags .entry)) i (r .additional) (r .next) ⌝ }
+    requires { ⌜ FlaggedPlace (now kept) (now flags) i ⌝ }
+    ensures { λ r. ⌜ NextRange most (now (kept .entry)) (now (flags .entry)) i (r .additional) (r .next) ⌝ }
 {
     let start = kept[i];
     let mut additional = 0;

@@ -17,9 +17,9 @@ use Rattle.number.proofs.BigEndianLaws.{length-enc, be-enc-fits}
 use Rattle.number.specs.Limits.{absent}
 use Rattle.format14_uvs.specs.NonDefault.{mapping, mappingAt, mappingBytes, keepsMapping, keptMappings, newNonDefault}
 use Rattle.format14_uvs.proofs.TablesLaws.{eq-table}
-use Rattle.format14_mapping.specs.Lent.{Table, New}
+use Rattle.format14_mapping.specs.Lent.{NonDefaultLent, NewNumber}
 use Rattle.format14_mapping.proofs.MappingLaws.{mapping-size}
-use Rattle.format14_same.specs.Rows.{staying, sameRows, Row, Stay}
+use Rattle.format14_same.specs.Rows.{staying, sameRows, MappingsLent, NextStaying}
 use Rattle.format14_same.proofs.CompareLaws.{Comparing, compare-on, compare-off, compare-short, compare-long, compare-end}
 
 -- ---- the next mapping that stays
@@ -38,10 +38,10 @@ module _ (xs : List ℕ) (p m : ℕ) (kept requested : List ℕ) (i : ℕ) where
   seeking-on j b s h e n = record { low = omega (arith, s .low); within = omega arith; same = s .same ∙ select-no (keepsMapping kept requested) (mappingAt xs p) m j h (sym e ∙ n) }
 
   pub seeking-found : (j : ℕ) (b : Bool) → Seeking xs p m kept requested i j → b ≡ keepsMapping kept requested (mapping xs (p + 4 + 5 * j)) → b ≡ true
-      → Stay xs p m kept requested i j
+      → NextStaying xs p m kept requested i j
   seeking-found j b s e y = record { low = s .low; within = s .within; same = s .same; stays = λ h. sym e ∙ y }
 
-  pub seeking-none : (j : ℕ) → Seeking xs p m kept requested i j → m ≤ j → Stay xs p m kept requested i j
+  pub seeking-none : (j : ℕ) → Seeking xs p m kept requested i j → m ≤ j → NextStaying xs p m kept requested i j
   seeking-none j s h = record { low = s .low; within = s .within; same = s .same; stays = λ l. absurd (omega arith) }
 
 pub ruleset seeking = (seeking-start, seeking-on, seeking-found, seeking-none)
@@ -66,7 +66,7 @@ module _ (xs : List ℕ) (a b : ℕ) (map : List ℕ) (c d : ℕ) (n : Num 3 xs 
   pub same-not : (c ≡ d → ⊥) → false ≡ eqList (mappingBytes map (mapping xs a)) (mappingBytes map (mapping xs b))
   same-not e = rw (bytes, ne-eqb c d e)
 
-  pub same-glyphs : c ≡ d → (g h u v : ℕ) → Num 2 xs (a + 3) g → Num 2 xs (b + 3) h → New map g u → New map h v
+  pub same-glyphs : c ≡ d → (g h u v : ℕ) → Num 2 xs (a + 3) g → Num 2 xs (b + 3) h → NewNumber map g u → NewNumber map h v
       → eqb u v ≡ eqList (mappingBytes map (mapping xs a)) (mappingBytes map (mapping xs b))
   same-glyphs e g h u v ng nh nu nv = rw (bytes, eq-eqb c d e, ← ng .is, ← nh .is, ← nu .is, ← nv .is) (eq-enc 2 u v (nu .below) (nv .below))
 
@@ -80,7 +80,7 @@ pub record Standing (xs : List ℕ) (p m : ℕ) (kept requested : List ℕ) (i :
   pub stays : i < m → keepsMapping kept requested (mappingAt xs p i) ≡ true
 
 module _ (xs kept requested : List ℕ) where
-  standing : (p m i r : ℕ) → Stay xs p m kept requested i r → Standing xs p m kept requested r
+  standing : (p m i r : ℕ) → NextStaying xs p m kept requested i r → Standing xs p m kept requested r
   standing p m i r s = record { within = s .within; stays = s .stays }
 
   here : (p m i : ℕ) → Standing xs p m kept requested i → i < m → staying xs p m kept requested i ≡ mappingAt xs p i ∷ staying xs p m kept requested (i + 1)
@@ -95,7 +95,7 @@ pub record Pairing (xs kept map requested : List ℕ) (p m q n i j : ℕ) : Type
   pub left : Comparing (mappingBytes map) (staying xs p m kept requested i) (staying xs q n kept requested j) (sameRows xs kept map requested p m q n)
 
 module _ (xs kept map requested : List ℕ) (p m q n : ℕ) where
-  pub pairing-start : (i j : ℕ) → Stay xs p m kept requested 0 i → Stay xs q n kept requested 0 j → Pairing xs kept map requested p m q n i j
+  pub pairing-start : (i j : ℕ) → NextStaying xs p m kept requested 0 i → NextStaying xs q n kept requested 0 j → Pairing xs kept map requested p m q n i j
   unfolding sameRows
   pairing-start i j a b = record {
     first = standing xs kept requested p m 0 i a;
@@ -105,7 +105,7 @@ module _ (xs kept map requested : List ℕ) (p m q n : ℕ) where
 
   module _ (i j : ℕ) (l : Pairing xs kept map requested p m q n i j) where
     module _ (b : Bool) (h : i < m) (k : j < n) (e : b ≡ eqList (mappingBytes map (mapping xs (p + 4 + 5 * i))) (mappingBytes map (mapping xs (q + 4 + 5 * j)))) where
-      pub pairing-on : b ≡ true → (u v : ℕ) → Stay xs p m kept requested (i + 1) u → Stay xs q n kept requested (j + 1) v → Pairing xs kept map requested p m q n u v
+      pub pairing-on : b ≡ true → (u v : ℕ) → NextStaying xs p m kept requested (i + 1) u → NextStaying xs q n kept requested (j + 1) v → Pairing xs kept map requested p m q n u v
       pairing-on t u v a c = record {
         first = standing xs kept requested p m (i + 1) u a;
         second = standing xs kept requested q n (j + 1) v c;
@@ -141,5 +141,5 @@ same-new xs kept map requested p m q n b c d e =
     e ∙ rw (c .is, d .is, each-all (mappingAt xs p) (be 4 xs p) 0, each-all (mappingAt xs q) (be 4 xs q) 0)
     (eq-table (mappingBytes map) 5 (omega arith) (mapping-size map) (keptMappings xs p kept requested) (keptMappings xs q kept requested))
 
-pub row-of : (xs : List ℕ) (p m : ℕ) (kept requested : List ℕ) → Table xs p kept requested → Num 4 xs p m → Row xs p m kept requested
+pub row-of : (xs : List ℕ) (p m : ℕ) (kept requested : List ℕ) → NonDefaultLent xs p kept requested → Num 4 xs p m → MappingsLent xs p m kept requested
 row-of xs p m kept requested t n = record { inside = rw (n .is) (t .inside); kept-rises = t .kept-rises; requested-rises = t .requested-rises }

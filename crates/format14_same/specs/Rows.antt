@@ -1,4 +1,4 @@
--- The mappings of a non-default table that stay, from a place of its row on.
+-- Inner: the mappings of a non-default table that stay, from a place of its row on; no promise names them.
 use Prim.Native.Nat.{ℕ, _+_, _-_, _*_, _<_, _≤_}
 use mathlib.Core.Path.{_≡_}
 use mathlib.Core.Bool.{Bool, true}
@@ -13,13 +13,13 @@ abbrev pub staying : List ℕ → ℕ → ℕ → List ℕ → List ℕ → ℕ 
 staying xs p m kept requested i = select (keepsMapping kept requested) (each (mappingAt xs p) (m - i) i)
 
 -- the m mappings of the table at p can be read, and looked up in the lists
-pub record Row (xs : List ℕ) (p m : ℕ) (kept requested : List ℕ) : Type 0 where
+pub record MappingsLent (xs : List ℕ) (p m : ℕ) (kept requested : List ℕ) : Type 0 where
   pub inside : p + 4 + 5 * m ≤ length xs
   pub kept-rises : Rising kept
   pub requested-rises : Rising requested
 
 -- r is the first mapping from i on that stays, or the end
-pub record Stay (xs : List ℕ) (p m : ℕ) (kept requested : List ℕ) (i r : ℕ) : Type 0 where
+pub record NextStaying (xs : List ℕ) (p m : ℕ) (kept requested : List ℕ) (i r : ℕ) : Type 0 where
   pub low : i ≤ r
   pub within : r ≤ m
   pub same : staying xs p m kept requested i ≡ staying xs p m kept requested r

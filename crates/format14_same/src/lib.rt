@@ -4,13 +4,13 @@ ghost use Prim.Native.Nat.{_+_, _≤_};
 ghost use lib.ListN.{length};
 ghost use Rattle.laws.specs.Select.{eqList};
 ghost use Rattle.format14_uvs.specs.NonDefault.{mapping, mappingBytes, newNonDefault};
-ghost use Rattle.format14_mapping.specs.Lent.{Table};
+ghost use Rattle.format14_mapping.specs.Lent.{NonDefaultLent};
 ghost use lib.Seq.{sets};
 ghost use Rattle.lists_marks.specs.Marks.{flagged};
 ghost use Rattle.format14_uvs.specs.Default.{coveredBy, rangeBytes, newDefault};
-ghost use Rattle.format14_ranges.specs.Stream.{Lent};
-ghost use Rattle.format14.specs.Streams.{CodePoints, Fits, Flagging, sameRanges};
-ghost use Rattle.format14_same.specs.Rows.{sameRows, Row, Stay};
+ghost use Rattle.format14_ranges.specs.Stream.{DefaultLent};
+ghost use Rattle.format14.specs.Streams.{CodePoints, RangeFits, Flagging, sameRanges};
+ghost use Rattle.format14_same.specs.Rows.{sameRows, MappingsLent, NextStaying};
 
 // The number of a mapping, and how many kept points are below the code point of the last one looked up.
 struct Stop {
@@ -28,9 +28,9 @@ fn next_mapping(
     i: usize,
     near: usize,
 ) -> Stop
-    requires { ⌜ Row (now s) p m (now kept) (now requested) ⌝ }
+    requires { ⌜ MappingsLent (now s) p m (now kept) (now requested) ⌝ }
     requires { ⌜ i ≤ m ⌝ }
-    ensures { λ r. ⌜ Stay (now (s .entry)) p m (now (kept .entry)) (now (requested .entry)) i (r .mapping) ⌝ }
+    ensures { λ r. ⌜ NextStaying (now (s .entry)) p m (now (kept .entry)) (now (requested .entry)) i (r .mapping) ⌝ }
 {
     let mut j = i;
     let mut place = near;
@@ -75,8 +75,8 @@ fn same_rows(
     map: &[u16],
     requested: &[u16],
 ) -> bool
-    requires { ⌜ Row (now s) p m (now kept) (now requested) ⌝ }
-    requires { ⌜ Row (now s) q n (now kept) (now requested) ⌝ }
+    requires { ⌜ MappingsLent (now s) p m (now kept) (now requested) ⌝ }
+    requires { ⌜ MappingsLent (now s) q n (now kept) (now requested) ⌝ }
     ensures { λ r. ⌜ r ≡ sameRows (now (s .entry)) (now (kept .entry)) (now (map .entry)) (now (requested .entry)) p m q n ⌝ }
 {
     let first = next_mapping(s, p, m, kept, requested, 0, 0);
@@ -112,8 +112,8 @@ pub fn same_non_default(
     map: &[u16],
     requested: &[u16],
 ) -> bool
-    requires { ⌜ Table (now s) p (now kept) (now requested) ⌝ }
-    requires { ⌜ Table (now s) q (now kept) (now requested) ⌝ }
+    requires { ⌜ NonDefaultLent (now s) p (now kept) (now requested) ⌝ }
+    requires { ⌜ NonDefaultLent (now s) q (now kept) (now requested) ⌝ }
     ensures { λ r. ⌜ r ≡ eqList (newNonDefault (now (s .entry)) p (now (kept .entry)) (now (map .entry)) (now (requested .entry))) (newNonDefault (now (s .entry)) q (now (kept .entry)) (now (map .entry)) (now (requested .entry))) ⌝ }
 {
     let m = number::u32_at(s, p) as usize;
@@ -123,8 +123,8 @@ pub fn same_non_default(
 
 // Whether two records get the same bytes.
 fn same_range(start: u32, additional: u32, other: u32, more: u32) -> bool
-    requires { ⌜ Fits start additional ⌝ }
-    requires { ⌜ Fits other more ⌝ }
+    requires { ⌜ RangeFits start additional ⌝ }
+    requires { ⌜ RangeFits other more ⌝ }
     ensures { λ r. ⌜ r ≡ eqList (rangeBytes (start, additional)) (rangeBytes (other, more)) ⌝ }
 {
     if start == other {
@@ -166,8 +166,8 @@ pub fn same_default(
     first: &mut [u8],
     second: &mut [u8],
 ) -> bool
-    requires { ⌜ Lent (now s) p (now kept) (now first) ⌝ }
-    requires { ⌜ Lent (now s) q (now kept) (now second) ⌝ }
+    requires { ⌜ DefaultLent (now s) p (now kept) (now first) ⌝ }
+    requires { ⌜ DefaultLent (now s) q (now kept) (now second) ⌝ }
     requires { ⌜ CodePoints (now kept) ⌝ }
     ensures { λ r. ⌜ r ≡ eqList (newDefault (now (s .entry)) p (now (kept .entry))) (newDefault (now (s .entry)) q (now (kept .entry))) ⌝ }
     ensures { λ _. ⌜ now (first .exit) ≡ sets (now (first .entry)) 0 (flagged (coveredBy (now (s .entry)) p) (now (kept .entry))) ⌝ }

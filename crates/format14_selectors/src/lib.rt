@@ -4,7 +4,7 @@ ghost use Prim.Native.Nat.{_+_, _*_, _<_, _≤_};
 ghost use lib.ListN.{length};
 ghost use lib.Seq.{sets};
 ghost use Rattle.laws.specs.Select.{flat};
-ghost use Rattle.format14.specs.SelectorRecords.{usedAt, usedRecords, offsetFor, recordBytes, recordAt, header14, Distances, Far};
+ghost use Rattle.format14.specs.SelectorRecords.{usedAt, usedRecords, offsetFor, selectorBytes, recordAt, header14With, Distances, Far};
 
 // Whether record k has a table.
 fn is_used(ends: &[usize], k: usize) -> bool
@@ -54,7 +54,7 @@ fn copy_var_selector_record_header(
     second: u32,
 )
     requires { ⌜ place + 11 ≤ length (now out) ⌝ }
-    ensures { λ _. ⌜ now (out .exit) ≡ sets (now (out .entry)) place (recordBytes selector first second) ⌝ }
+    ensures { λ _. ⌜ now (out .exit) ≡ sets (now (out .entry)) place (selectorBytes selector first second) ⌝ }
 {
     number_writer::put_u24(out, place, selector);
     number_writer::put_u32(out, place + 3, first);
@@ -110,7 +110,7 @@ pub fn copy_records(
 
 pub fn put_header(out: &mut [u8], place: usize, total: u32, count: u32)
     requires { ⌜ place + 10 ≤ length (now out) ⌝ }
-    ensures { λ _. ⌜ now (out .exit) ≡ sets (now (out .entry)) place (header14 total count) ⌝ }
+    ensures { λ _. ⌜ now (out .exit) ≡ sets (now (out .entry)) place (header14With total count) ⌝ }
 {
     number_writer::put_u16(out, place, 14);
     number_writer::put_u32(out, place + 2, total);

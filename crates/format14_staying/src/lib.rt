@@ -4,7 +4,7 @@ ghost use Rattle.laws.specs.Lists.{Rising};
 ghost use Rattle.lists_marks.specs.Marks.{holds, Bound};
 ghost use Rattle.number.specs.BigEndian.{Num};
 ghost use Rattle.format14_uvs.specs.NonDefault.{mapping, keepsMapping};
-ghost use Rattle.format14_staying.specs.Staying.{Mapping};
+ghost use Rattle.format14_staying.specs.Staying.{MappingLent};
 
 // The place behind i where the point at i is below c, else i.
 fn step(kept: &[u32], c: u32, i: usize) -> usize {
@@ -48,7 +48,7 @@ fn stands_at(kept: &[u32], c: u32, i: usize) -> bool
 
 // Whether the mapping at `place` stays, which has the code point c with i kept points below it.
 pub fn stays_at(s: &[u8], place: usize, kept: &[u32], requested: &[u16], c: u32, i: usize) -> bool
-    requires { ⌜ Mapping (now s) place (now kept) (now requested) ⌝ }
+    requires { ⌜ MappingLent (now s) place (now kept) (now requested) ⌝ }
     requires { ⌜ Num 3 (now s) place c × Bound (now kept) c i ⌝ }
     ensures { λ r. ⌜ r ≡ keepsMapping (now (kept .entry)) (now (requested .entry)) (mapping (now (s .entry)) place) ⌝ }
 {
@@ -75,7 +75,7 @@ pub fn keeps_mapping(
     requested: &[u16],
     near: usize,
 ) -> Staying
-    requires { ⌜ Mapping (now s) place (now kept) (now requested) ⌝ }
+    requires { ⌜ MappingLent (now s) place (now kept) (now requested) ⌝ }
     ensures { λ r. ⌜ r .stays ≡ keepsMapping (now (kept .entry)) (now (requested .entry)) (mapping (now (s .entry)) place) ⌝ }
 {
     let c = number::u24_at(s, place);

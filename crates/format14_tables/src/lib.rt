@@ -8,8 +8,8 @@ ghost use Rattle.laws.specs.Select.{eqList};
 ghost use Rattle.number.specs.BigEndian.{be};
 ghost use Rattle.format14_uvs.specs.Checksum.{checksum};
 ghost use Rattle.format14_uvs.specs.Tables.{counts};
-ghost use Rattle.format14.specs.Selectors.{given};
-ghost use Rattle.format14.specs.ByNumber.{slot, badSlot, Source, Readable, Numbered, Size, Both};
+ghost use Rattle.format14.specs.Selectors.{job14};
+ghost use Rattle.format14.specs.ByNumber.{slot, badSlot, SourceOffset, Readable, Numbered, SlotLength, BothThere};
 
 // How many tables the source's subtable has: two for each selector record.
 pub fn count_tables(s: &[u8], subtable: Subtable) -> usize
@@ -40,7 +40,7 @@ pub fn source_table(
 ) -> usize
     requires { ⌜ Readable (now s) (subtable .at) (subtable .len) (now kept) (now requested) ⌝ }
     requires { ⌜ t < 2 * be 4 (now s) (subtable .at + 6) ⌝ }
-    ensures { λ r. ⌜ Source (now (s .entry)) (subtable .at) (subtable .len) (now (kept .entry)) t r ⌝ }
+    ensures { λ r. ⌜ SourceOffset (now (s .entry)) (subtable .at) (subtable .len) (now (kept .entry)) t r ⌝ }
 {
     let record = subtable.at + 10 + 11 * (t / 2);
     if lists_marks::member(kept, number::u24_at(s, record)) {
@@ -72,8 +72,8 @@ pub fn measure_table(
 ) -> TableMeasure
     requires { ⌜ Readable (now s) (subtable .at) (subtable .len) (now kept) (now requested) ⌝ }
     requires { ⌜ Numbered (now s) (subtable .at) (now kept) (now flags) t ⌝ }
-    requires { ⌜ Source (now s) (subtable .at) (subtable .len) (now kept) t off ⌝ }
-    ensures { λ r. ⌜ (let g = given (now (s .entry)) (subtable .at) (subtable .len) (now (kept .entry)) (now (map .entry)) (now (requested .entry)) in Size g t (r .size) × ((r .sum ≡ checksum (4 + t % 2) (slot g t)) × (r .bad ≡ badSlot g t))) ⌝ }
+    requires { ⌜ SourceOffset (now s) (subtable .at) (subtable .len) (now kept) t off ⌝ }
+    ensures { λ r. ⌜ (let g = job14 (now (s .entry)) (subtable .at) (subtable .len) (now (kept .entry)) (now (map .entry)) (now (requested .entry)) in SlotLength g t (r .size) × ((r .sum ≡ checksum (4 + t % 2) (slot g t)) × (r .bad ≡ badSlot g t))) ⌝ }
 {
     if off == 0 {
         return TableMeasure {
@@ -115,8 +115,8 @@ pub fn same_table(
     requires { ⌜ Readable (now s) (subtable .at) (subtable .len) (now kept) (now requested) ⌝ }
     requires { ⌜ Numbered (now s) (subtable .at) (now kept) (now flags) i ⌝ }
     requires { ⌜ Numbered (now s) (subtable .at) (now kept) (now others) j ⌝ }
-    requires { ⌜ Both (given (now s) (subtable .at) (subtable .len) (now kept) (now map) (now requested)) i j ⌝ }
-    ensures { λ r. ⌜ (let g = given (now (s .entry)) (subtable .at) (subtable .len) (now (kept .entry)) (now (map .entry)) (now (requested .entry)) in r ≡ eqList (slot g i) (slot g j)) ⌝ }
+    requires { ⌜ BothThere (job14 (now s) (subtable .at) (subtable .len) (now kept) (now map) (now requested)) i j ⌝ }
+    ensures { λ r. ⌜ (let g = job14 (now (s .entry)) (subtable .at) (subtable .len) (now (kept .entry)) (now (map .entry)) (now (requested .entry)) in r ≡ eqList (slot g i) (slot g j)) ⌝ }
 {
     if i % 2 != j % 2 {
         return false;
@@ -147,8 +147,8 @@ pub fn copy_table(
 )
     requires { ⌜ Readable (now s) (subtable .at) (subtable .len) (now kept) (now requested) ⌝ }
     requires { ⌜ Numbered (now s) (subtable .at) (now kept) (now flags) t ⌝ }
-    requires { ⌜ to + length (slot (given (now s) (subtable .at) (subtable .len) (now kept) (now map) (now requested)) t) ≤ length (now out) ⌝ }
-    ensures { λ _. ⌜ now (out .exit) ≡ sets (now (out .entry)) to (slot (given (now (s .entry)) (subtable .at) (subtable .len) (now (kept .entry)) (now (map .entry)) (now (requested .entry))) t) ⌝ }
+    requires { ⌜ to + length (slot (job14 (now s) (subtable .at) (subtable .len) (now kept) (now map) (now requested)) t) ≤ length (now out) ⌝ }
+    ensures { λ _. ⌜ now (out .exit) ≡ sets (now (out .entry)) to (slot (job14 (now (s .entry)) (subtable .at) (subtable .len) (now (kept .entry)) (now (map .entry)) (now (requested .entry))) t) ⌝ }
 {
     let off = source_table(s, subtable, kept, requested, t);
     if off == 0 {

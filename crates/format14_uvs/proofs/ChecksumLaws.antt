@@ -13,7 +13,7 @@ use Rattle.laws.proofs.ChoiceLaws.{by-test}
 use Rattle.laws.proofs.SelectLaws.{each-all, select-yes, select-no, select-end}
 use Rattle.number.specs.BigEndian.{enc}
 use Rattle.number.proofs.BigEndianLaws.{length-enc}
-use Rattle.format14_uvs.specs.Tables.{table}
+use Rattle.format14_uvs.specs.Tables.{uvsTable}
 use Rattle.format14_uvs.specs.Checksum.{gathered, mixed, checksum}
 
 -- the bytes that make a number whole, then others
@@ -41,8 +41,8 @@ folded-fits y h = omega arith
 
 -- ---- tables
 
-pub checksum-table : {A : Type 0} (size : ℕ) (w : A → List ℕ) (xs : List A) → checksum size (table w xs) ≡ mixed size 0 (flat w xs)
-unfolding checksum table flat gathered
+pub checksum-table : {A : Type 0} (size : ℕ) (w : A → List ℕ) (xs : List A) → checksum size (uvsTable w xs) ≡ mixed size 0 (flat w xs)
+unfolding checksum uvsTable flat gathered
 checksum-table size w [] = refl
 checksum-table size w (x ∷ xs) =
     let n = length (x ∷ xs) in

@@ -5,7 +5,7 @@ use mathlib.Core.Bool.{false}
 use Rattle.laws.specs.Search.{first}
 use Rattle.laws.specs.Select.{each, select, anyOf, flat}
 use Rattle.number.specs.BigEndian.{be, enc}
-use Rattle.format14_uvs.specs.Tables.{table}
+use Rattle.format14_uvs.specs.Tables.{uvsTable}
 use Rattle.format14_uvs.specs.Default.{inRanges, bitLength, coveredPoints, longRanges, longest, follow, newDefault}
 
 -- no range gives single points, of which there are none
@@ -32,5 +32,5 @@ most-cuts = refl
 pub inside-written :
     newDefault (0 ∷ 0 ∷ 0 ∷ 3 ∷ 0 ∷ 0xFD ∷ 0xFF ∷ 1 ∷ 0 ∷ 0xFE ∷ 0x10 ∷ 0 ∷ 0 ∷ 0xFE ∷ 0x20 ∷ 0 ∷ []) 0 (0xFE00 ∷ [])
     ≡ 0 ∷ 0 ∷ 0 ∷ 1 ∷ 0 ∷ 0xFE ∷ 0 ∷ 0 ∷ []
-unfolding newDefault table flat enc inRanges bitLength first select anyOf each be longest follow
+unfolding newDefault uvsTable flat enc inRanges bitLength first select anyOf each be longest follow
 inside-written = refl

@@ -6,7 +6,7 @@ use Prim.Native.Nat.{ℕ}
 use Rattle.laws.specs.Select.{each, select, anyOf, flat}
 use Rattle.lists_marks.specs.Marks.{holds}
 use Rattle.number.specs.BigEndian.{be, enc}
-use Rattle.format14_uvs.specs.Tables.{table}
+use Rattle.format14_uvs.specs.Tables.{uvsTable}
 use Rattle.format14_uvs.specs.NonDefault.{keepsMapping, newNonDefault, missing, badMapping}
 
 unfoldable pub two : List ℕ
@@ -14,12 +14,12 @@ two = 0 ∷ 0 ∷ 0 ∷ 2 ∷ 0 ∷ 0 ∷ 0x41 ∷ 0 ∷ 1 ∷ 0 ∷ 0 ∷ 0x42 
 
 -- one stays for its code point, the other for its old glyph; the new glyphs are written
 pub both-stay : newNonDefault two 0 (0x41 ∷ []) (0 ∷ 7 ∷ 9 ∷ []) (2 ∷ []) ≡ 0 ∷ 0 ∷ 0 ∷ 2 ∷ 0 ∷ 0 ∷ 0x41 ∷ 0 ∷ 7 ∷ 0 ∷ 0 ∷ 0x42 ∷ 0 ∷ 9 ∷ []
-unfolding two newNonDefault table flat enc keepsMapping holds select each be
+unfolding two newNonDefault uvsTable flat enc keepsMapping holds select each be
 both-stay = refl
 
 -- none stays: no table
 pub none-stays : newNonDefault two 0 (0x40 ∷ []) (0 ∷ 7 ∷ 9 ∷ []) [] ≡ []
-unfolding two newNonDefault table flat enc keepsMapping holds select each be
+unfolding two newNonDefault uvsTable flat enc keepsMapping holds select each be
 none-stays = refl
 
 -- refusal 8: a glyph absent from the map, or not below n; a mapping that does not stay is of no account

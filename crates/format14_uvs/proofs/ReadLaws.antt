@@ -15,7 +15,7 @@ use Rattle.laws.proofs.StandsLaws.{Stands}
 use Rattle.number.specs.BigEndian.{be, enc}
 use Rattle.number.proofs.BigEndianLaws.{be-enc-fits, length-enc}
 use Rattle.number.proofs.StandsLaws.{be-stands}
-use Rattle.format14_uvs.specs.Tables.{table}
+use Rattle.format14_uvs.specs.Tables.{uvsTable}
 
 -- ---- what holds of each element of a row holds of those selected
 
@@ -64,9 +64,9 @@ module _ {A B : Type 0} (w : A → List ℕ) (size : ℕ) (sized : (x : A) → l
       ap₂ (λ (b : B) (l : List B). b ∷ l) (one ys (at + size * i) x (f .0) (stands-front (w x) (flat w xs) st))
       (row-back ys at xs (i + 1) (f .1) (stands-back (w x) (flat w xs) (at + size * (i + 1)) next st))
 
-  pub table-back : (ys : List ℕ) (q : ℕ) (xs : List A) → Each P xs → length xs < 256 ^ 4 → Stands ys q (table w xs) → 0 < length (table w xs)
+  pub table-back : (ys : List ℕ) (q : ℕ) (xs : List A) → Each P xs → length xs < 256 ^ 4 → Stands ys q (uvsTable w xs) → 0 < length (uvsTable w xs)
       → each (λ k. read ys (q + 4 + size * k)) (be 4 ys q) 0 ≡ map val xs
-  unfolding table
+  unfolding uvsTable
   table-back ys q [] f l st z = absurd (omega arith)
   table-back ys q (x ∷ xs) f l st z =
       let n = length (x ∷ xs) in

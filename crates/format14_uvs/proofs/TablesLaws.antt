@@ -17,7 +17,7 @@ use Rattle.laws.proofs.SelectLaws.{length-flat}
 use Rattle.laws.proofs.SetsCommLaws.{sets-before}
 use Rattle.number.specs.BigEndian.{be, enc, put, Num}
 use Rattle.number.proofs.BigEndianLaws.{length-enc}
-use Rattle.format14_uvs.specs.Tables.{counts, table}
+use Rattle.format14_uvs.specs.Tables.{counts, uvsTable}
 
 -- ---- counts
 
@@ -58,53 +58,53 @@ product-below size n s h = omega (arith, mul-le-mul-right n s)
 
 -- n is the code's count of the records
 module _ {A : Type 0} (w : A → List ℕ) (xs : List A) (n : ℕ) (e : n ≡ length xs) where
-  pub table-none : n ≡ 0 → table w xs ≡ []
-  unfolding table
+  pub table-none : n ≡ 0 → uvsTable w xs ≡ []
+  unfolding uvsTable
   table-none z = none xs (sym e ∙ z)
     where
-      none : (xs : List A) → length xs ≡ 0 → table w xs ≡ []
+      none : (xs : List A) → length xs ≡ 0 → uvsTable w xs ≡ []
       none [] h = refl
       none (x ∷ xs) h = absurd (omega arith)
 
-  pub table-some : (n ≡ 0 → ⊥) → table w xs ≡ enc 4 n ++ flat w xs
-  unfolding table
+  pub table-some : (n ≡ 0 → ⊥) → uvsTable w xs ≡ enc 4 n ++ flat w xs
+  unfolding uvsTable
   table-some z = rw e (some xs (λ h. z (e ∙ h)))
     where
-      some : (xs : List A) → (length xs ≡ 0 → ⊥) → table w xs ≡ enc 4 (length xs) ++ flat w xs
+      some : (xs : List A) → (length xs ≡ 0 → ⊥) → uvsTable w xs ≡ enc 4 (length xs) ++ flat w xs
       some [] h = absurd (h refl)
       some (x ∷ xs) h = refl
 
-  pub size-none : n ≡ 0 → 0 ≡ length (table w xs)
+  pub size-none : n ≡ 0 → 0 ≡ length (uvsTable w xs)
   size-none z = rw (table-none z)
 
-  pub size-some : (size : ℕ) → ((x : A) → length (w x) ≡ size) → (n ≡ 0 → ⊥) → 4 + size * n ≡ length (table w xs)
+  pub size-some : (size : ℕ) → ((x : A) → length (w x) ≡ size) → (n ≡ 0 → ⊥) → 4 + size * n ≡ length (uvsTable w xs)
   size-some size h z = rw (table-some z, length-append, length-enc, length-flat w size h xs, ← e)
 
 -- The records are written behind a place for their count, which comes last. With no record there may be no such place.
 module _ {A : Type 0} (w : A → List ℕ) (xs : List A) (out : List ℕ) (to : ℕ) where
-  pub write-short : to + length (table w xs) ≤ length out → length out - to < 4 → out ≡ sets out to (table w xs)
-  write-short r h = by-leb (out ≡ sets out to (table w xs)) 1 (length xs)
+  pub write-short : to + length (uvsTable w xs) ≤ length out → length out - to < 4 → out ≡ sets out to (uvsTable w xs)
+  write-short r h = by-leb (out ≡ sets out to (uvsTable w xs)) 1 (length xs)
       (λ (l : 1 ≤ length xs). absurd (omega (arith, rw (table-some w xs (length xs) refl (λ z. omega arith), length-append, length-enc) at r)))
       (λ (l : length xs < 1). rw (table-none w xs (length xs) refl (omega arith)))
 
-  pub write-room : to + length (table w xs) ≤ length out → 4 ≤ length out - to → to + 4 + length (flat w xs) ≤ length out
+  pub write-room : to + length (uvsTable w xs) ≤ length out → 4 ≤ length out - to → to + 4 + length (flat w xs) ≤ length out
   unfolding flat
   write-room r h = room xs r
     where
-      room : (xs : List A) → to + length (table w xs) ≤ length out → to + 4 + length (flat w xs) ≤ length out
+      room : (xs : List A) → to + length (uvsTable w xs) ≤ length out → to + 4 + length (flat w xs) ≤ length out
       room [] r = omega arith
       room (x ∷ xs) r = omega (arith, rw (table-some w (x ∷ xs) (length (x ∷ xs)) refl (λ z. omega arith), length-append, length-enc) at r)
 
   module _ (n : ℕ) (e : n ≡ length xs) (mid : List ℕ) (d : mid ≡ sets out (to + 4) (flat w xs)) where
-    pub write-none : n ≡ 0 → mid ≡ sets out to (table w xs)
+    pub write-none : n ≡ 0 → mid ≡ sets out to (uvsTable w xs)
     unfolding flat
     write-none z = d ∙ none xs (sym e ∙ z)
       where
-        none : (xs : List A) → length xs ≡ 0 → sets out (to + 4) (flat w xs) ≡ sets out to (table w xs)
+        none : (xs : List A) → length xs ≡ 0 → sets out (to + 4) (flat w xs) ≡ sets out to (uvsTable w xs)
         none [] h = rw (table-none w [] 0 refl refl)
         none (x ∷ xs) h = absurd (omega arith)
 
-    pub write-some : (n ≡ 0 → ⊥) → (fin : List ℕ) → fin ≡ put 4 mid to n → fin ≡ sets out to (table w xs)
+    pub write-some : (n ≡ 0 → ⊥) → (fin : List ℕ) → fin ≡ put 4 mid to n → fin ≡ sets out to (uvsTable w xs)
     unfolding put
     write-some z fin f = rw (f, d, table-some w xs n e z) (sets-before out (enc 4 n) (flat w xs) (to + 4) to (rw (length-enc 4 n)))
 
@@ -112,8 +112,8 @@ pub ruleset writes = (write-short, write-room, write-none, write-some)
 
 -- two tables are equal exactly where their records' bytes are
 pub eq-table : {A : Type 0} (w : A → List ℕ) (size : ℕ) → 0 < size → ((x : A) → length (w x) ≡ size) → (xs ys : List A)
-    → eqList (flat w xs) (flat w ys) ≡ eqList (table w xs) (table w ys)
-unfolding flat table
+    → eqList (flat w xs) (flat w ys) ≡ eqList (uvsTable w xs) (uvsTable w ys)
+unfolding flat uvsTable
 eq-table w size s h [] [] = refl
 eq-table w size s h [] (y ∷ ys) =
     eq-none (w y ++ flat w ys) (rw (length-append, h y) (omega arith))

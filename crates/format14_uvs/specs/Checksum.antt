@@ -1,4 +1,4 @@
--- A checksum of a new table's bytes, by which the code tells most unequal tables apart at once. Nothing that is promised rests on what it is:
+-- Inner: a checksum of a new table's bytes, by which the code tells most unequal tables apart at once. Nothing that is promised rests on what it is:
 -- equal tables of one sort have equal checksums because a checksum is made from the bytes alone, and no more is used.
 use Prim.Native.Nat.{ℕ, zero, suc, _+_, _-_, _*_, _/_, _%_}
 use mathlib.Core.List.{List, [], _∷_}

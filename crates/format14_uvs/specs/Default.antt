@@ -1,4 +1,4 @@
--- The new default table of a selector record (docs/01-rules.md, "Format 14"). The source's table stands at p.
+-- The new default table of a selector record (docs/RULES.md, "Format 14"). The source's table stands at p.
 use Prim.Native.Nat.{ℕ, zero, suc, _+_, _*_, _^_}
 use mathlib.Core.List.{List, [], _∷_, _++_, map}
 use mathlib.Core.Bool.{Bool}
@@ -10,7 +10,7 @@ use Rattle.laws.specs.Select.{each, select, anyOf}
 use Rattle.laws.specs.Lists.{Pair}
 use Rattle.lists_marks.specs.Marks.{between}
 use Rattle.number.specs.BigEndian.{be, enc}
-use Rattle.format14_uvs.specs.Tables.{table}
+use Rattle.format14_uvs.specs.Tables.{uvsTable}
 
 -- the range at a place: its startUnicodeValue and additionalCount
 abbrev pub range : List ℕ → ℕ → Pair
@@ -72,4 +72,4 @@ abbrev pub rangeBytes : Pair → List ℕ
 rangeBytes a = enc 3 (a .0) ++ enc 1 (a .1)
 
 unfoldable pub newDefault : List ℕ → ℕ → List ℕ → List ℕ
-newDefault xs p kept = table rangeBytes (newRecords xs p kept)
+newDefault xs p kept = uvsTable rangeBytes (newRecords xs p kept)

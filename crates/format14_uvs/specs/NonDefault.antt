@@ -1,4 +1,4 @@
--- The new non-default table of a selector record (docs/01-rules.md, "Format 14"), and refusal 8 for it. The source's table stands at p.
+-- The new non-default table of a selector record (docs/RULES.md, "Format 14"), and refusal 8 for it. The source's table stands at p.
 use Prim.Native.Nat.{ℕ, _+_, _*_}
 use mathlib.Core.List.{List, _++_}
 use mathlib.Core.Bool.{Bool}
@@ -10,7 +10,7 @@ use Rattle.laws.specs.Select.{each, select, anyOf}
 use Rattle.lists_marks.specs.Marks.{holds}
 use Rattle.number.specs.BigEndian.{be, enc}
 use Rattle.number.specs.Limits.{absent}
-use Rattle.format14_uvs.specs.Tables.{table}
+use Rattle.format14_uvs.specs.Tables.{uvsTable}
 
 -- the mapping at a place: its unicodeValue and glyphID
 abbrev pub mapping : List ℕ → ℕ → Pair
@@ -35,7 +35,7 @@ abbrev pub mappingBytes : List ℕ → Pair → List ℕ
 mappingBytes map m = enc 3 (m .0) ++ enc 2 (getD map (m .1) absent)
 
 unfoldable pub newNonDefault : List ℕ → ℕ → List ℕ → List ℕ → List ℕ → List ℕ
-newNonDefault xs p kept map requested = table (mappingBytes map) (keptMappings xs p kept requested)
+newNonDefault xs p kept map requested = uvsTable (mappingBytes map) (keptMappings xs p kept requested)
 
 -- a glyph at or above n, or absent from the map
 unfoldable pub missing : List ℕ → ℕ → Bool

@@ -1,4 +1,4 @@
--- A default or non-default table as OpenType lays it out: a count of four bytes, then as many records of one size (docs/01-rules.md, "Format 14").
+-- A default or non-default table as OpenType lays it out: a count of four bytes, then as many records of one size (docs/RULES.md, "Format 14").
 use Prim.Native.Nat.{ℕ, _+_, _*_}
 use mathlib.Core.List.{List, [], _∷_, _++_}
 use mathlib.Core.Bool.{Bool}
@@ -20,6 +20,6 @@ abbrev pub countsNonDefault : List ℕ → ℕ → ℕ → ℕ → Bool
 countsNonDefault xs at len off = counts 5 xs at len off
 
 -- The bytes of a new table: how many records, then each record's bytes. With no record there is no table, which the empty list stands for.
-unfoldable pub table : {A : Type 0} → (A → List ℕ) → List A → List ℕ
-table bytes [] = []
-table bytes (x ∷ xs) = enc 4 (length (x ∷ xs)) ++ flat bytes (x ∷ xs)
+unfoldable pub uvsTable : {A : Type 0} → (A → List ℕ) → List A → List ℕ
+uvsTable bytes [] = []
+uvsTable bytes (x ∷ xs) = enc 4 (length (x ∷ xs)) ++ flat bytes (x ∷ xs)

@@ -1,5 +1,5 @@
 // The new subtable of format 14: which selector records stay, where their tables stand, and its bytes.
-use format14::Outcome;
+use format14::Outcome14;
 use format14::Subtable;
 ghost use mathlib.Core.Path.{_≡_};
 ghost use mathlib.Core.List.{_++_};
@@ -9,12 +9,13 @@ ghost use lib.Seq.{sets};
 ghost use Rattle.laws.specs.Pieces.{concat};
 ghost use Rattle.laws.specs.Select.{flat};
 ghost use Rattle.number.specs.BigEndian.{be};
-ghost use Rattle.format14.specs.Selectors.{given, selectorRecords, namesMissing};
+ghost use Rattle.format14.specs.Selectors.{job14, selectorRecords, namesMissing};
 ghost use Rattle.format14.specs.ByNumber.{slot, Readable};
-ghost use Rattle.format14.specs.SelectorRecords.{usedRecords, recordAt, header14, Distances};
-ghost use Rattle.format14.specs.Ends.{Written, Ends, Total};
-ghost use Rattle.format14.specs.Format14.{rows, lengthOf, format14, outcome, lengthIn};
+ghost use Rattle.format14.specs.SelectorRecords.{usedRecords, recordAt, header14With, Distances};
+ghost use Rattle.format14.specs.Ends.{writtenFrom, Ends, Total};
+ghost use Rattle.format14.specs.Format14.{rows, lengthOf14, format14, outcome14, lengthIn};
 ghost use Rattle.format14.specs.Parts.{outcomeFrom, Stops, endsAt};
+ghost use Rattle.number.specs.Limits.{tablesMax};
 
 // The length of all tables that are written, and refusal 8.
 struct LaidOut {
@@ -35,10 +36,10 @@ fn lay_out(
 ) -> LaidOut
     requires { ⌜ Readable (now s) (subtable .at) (subtable .len) (now kept) (now requested) ⌝ }
     requires { ⌜ (length (now kept) ≤ length (now flags)) × (length (now kept) ≤ length (now others)) ⌝ }
-    requires { ⌜ 1024 ≤ length (now ends) ⌝ }
-    ensures { λ r. ⌜ (let g = given (now (s .entry)) (subtable .at) (subtable .len) (now (kept .entry)) (now (map .entry)) (now (requested .entry)) in (r .refused ≡ namesMissing g) × (Ends (slot g) (2 * selectorRecords g) (now (ends .exit)) × Total (slot g) (2 * selectorRecords g) (r .tail))) ⌝ }
+    requires { ⌜ tablesMax ≤ length (now ends) ⌝ }
+    ensures { λ r. ⌜ (let g = job14 (now (s .entry)) (subtable .at) (subtable .len) (now (kept .entry)) (now (map .entry)) (now (requested .entry)) in (r .refused ≡ namesMissing g) × (Ends (slot g) (2 * selectorRecords g) (now (ends .exit)) × Total (slot g) (2 * selectorRecords g) (r .tail))) ⌝ }
 {
-    let mut lengths = [0usize; 1024];
+    let mut lengths = [0usize; number::limits::TABLES_MAX];
     let mut sums = [0u64; 1024];
     let refused = format14_places::measure(
         s,
@@ -69,16 +70,16 @@ fn lay_out(
 }
 
 // Refusal 8 comes first; a subtable without selector records is empty.
-fn outcome_from(refused: bool, count: usize, total: usize) -> Outcome
+fn outcome_from(refused: bool, count: usize, total: usize) -> Outcome14
     ensures { λ r. ⌜ r ≡ outcomeFrom refused count total ⌝ }
 {
     if refused {
-        return Outcome::Refused8;
+        return Outcome14::Refused8;
     }
     if count == 0 {
-        return Outcome::Empty;
+        return Outcome14::Empty;
     }
-    Outcome::Length(total)
+    Outcome14::Length(total)
 }
 
 // What becomes of the subtable; `ends` then holds the distance of each of its tables from its end. The flags are work room.
@@ -91,11 +92,11 @@ pub fn size(
     flags: &mut [u8],
     others: &mut [u8],
     ends: &mut [usize],
-) -> Outcome
+) -> Outcome14
     requires { ⌜ Readable (now s) (subtable .at) (subtable .len) (now kept) (now requested) ⌝ }
     requires { ⌜ (length (now kept) ≤ length (now flags)) × (length (now kept) ≤ length (now others)) ⌝ }
-    requires { ⌜ 1024 ≤ length (now ends) ⌝ }
-    ensures { λ r. ⌜ (let g = given (now (s .entry)) (subtable .at) (subtable .len) (now (kept .entry)) (now (map .entry)) (now (requested .entry)) in (r ≡ outcome g) × Ends (slot g) (2 * selectorRecords g) (now (ends .exit))) ⌝ }
+    requires { ⌜ tablesMax ≤ length (now ends) ⌝ }
+    ensures { λ r. ⌜ (let g = job14 (now (s .entry)) (subtable .at) (subtable .len) (now (kept .entry)) (now (map .entry)) (now (requested .entry)) in (r ≡ outcome14 g) × Ends (slot g) (2 * selectorRecords g) (now (ends .exit))) ⌝ }
     ensures { λ r. ⌜ lengthIn r < 4294967296 ⌝ }
 {
     let n = number::u32_at(s, subtable.at + 6) as usize;
@@ -116,7 +117,7 @@ fn put_front(
 )
     requires { ⌜ subtable .at + 10 + 11 * be 4 (now s) (subtable .at + 6) ≤ length (now s) ⌝ }
     requires { ⌜ (let n = be 4 (now s) (subtable .at + 6) in Distances n total (now ends) × (place + 10 + 11 * length (usedRecords (now ends) n) ≤ length (now out))) ⌝ }
-    ensures { λ _. ⌜ (let ks = usedRecords (now (ends .entry)) (be 4 (now (s .entry)) (subtable .at + 6)) in now (out .exit) ≡ sets (now (out .entry)) place (header14 total (length ks) ++ flat (recordAt (now (s .entry)) (subtable .at) total (now (ends .entry))) ks)) ⌝ }
+    ensures { λ _. ⌜ (let ks = usedRecords (now (ends .entry)) (be 4 (now (s .entry)) (subtable .at + 6)) in now (out .exit) ≡ sets (now (out .entry)) place (header14With total (length ks) ++ flat (recordAt (now (s .entry)) (subtable .at) total (now (ends .entry))) ks)) ⌝ }
 {
     let n = number::u32_at(s, subtable.at + 6) as usize;
     let count = format14_selectors::count_records(ends, n);
@@ -138,8 +139,8 @@ fn copy_var_selector_record_uvs_tables(
 )
     requires { ⌜ Readable (now s) (subtable .at) (subtable .len) (now kept) (now requested) ⌝ }
     requires { ⌜ length (now kept) ≤ length (now flags) ⌝ }
-    requires { ⌜ (let g = given (now s) (subtable .at) (subtable .len) (now kept) (now map) (now requested) in Ends (slot g) (2 * selectorRecords g) (now ends) × Stops (slot g) (2 * selectorRecords g) stop (now out)) ⌝ }
-    ensures { λ _. ⌜ (let g = given (now (s .entry)) (subtable .at) (subtable .len) (now (kept .entry)) (now (map .entry)) (now (requested .entry)) in now (out .exit) ≡ endsAt stop (now (out .entry)) (concat (Written (slot g) (2 * selectorRecords g) 0))) ⌝ }
+    requires { ⌜ (let g = job14 (now s) (subtable .at) (subtable .len) (now kept) (now map) (now requested) in Ends (slot g) (2 * selectorRecords g) (now ends) × Stops (slot g) (2 * selectorRecords g) stop (now out)) ⌝ }
+    ensures { λ _. ⌜ (let g = job14 (now (s .entry)) (subtable .at) (subtable .len) (now (kept .entry)) (now (map .entry)) (now (requested .entry)) in now (out .exit) ≡ endsAt stop (now (out .entry)) (concat (writtenFrom (slot g) (2 * selectorRecords g) 0))) ⌝ }
 {
     let mut tail = 0;
     let mut k = format14_tables::count_tables(s, subtable);
@@ -178,9 +179,9 @@ pub fn serialize(
 )
     requires { ⌜ Readable (now s) (subtable .at) (subtable .len) (now kept) (now requested) ⌝ }
     requires { ⌜ length (now kept) ≤ length (now flags) ⌝ }
-    requires { ⌜ (let g = given (now s) (subtable .at) (subtable .len) (now kept) (now map) (now requested) in Ends (slot g) (2 * selectorRecords g) (now ends) × (total ≡ lengthOf (rows g))) ⌝ }
+    requires { ⌜ (let g = job14 (now s) (subtable .at) (subtable .len) (now kept) (now map) (now requested) in Ends (slot g) (2 * selectorRecords g) (now ends) × (total ≡ lengthOf14 (rows g))) ⌝ }
     requires { ⌜ place + total ≤ length (now out) ⌝ }
-    ensures { λ _. ⌜ now (out .exit) ≡ sets (now (out .entry)) place (format14 (rows (given (now (s .entry)) (subtable .at) (subtable .len) (now (kept .entry)) (now (map .entry)) (now (requested .entry))))) ⌝ }
+    ensures { λ _. ⌜ now (out .exit) ≡ sets (now (out .entry)) place (format14 (rows (job14 (now (s .entry)) (subtable .at) (subtable .len) (now (kept .entry)) (now (map .entry)) (now (requested .entry))))) ⌝ }
 {
     put_front(out, place, s, subtable, ends, total);
     copy_var_selector_record_uvs_tables(

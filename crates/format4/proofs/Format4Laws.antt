@@ -12,7 +12,7 @@ use Rattle.number.proofs.RowLaws.{length-encs}
 use Rattle.format4_cutting.specs.declared.Segment.{Segment}
 use Rattle.format4_cutting.specs.Cutting.{segments, glyphArray, entriesOf, points}
 use Rattle.format4_cutting.specs.Steps.{arrayFrom}
-use Rattle.format4.specs.Format4.{offsetsFrom, lengthWith, header, endOf, startOf, deltaOf, numbers, format4}
+use Rattle.format4.specs.Format4.{offsetsFrom, lengthWith, header4, endOf, startOf, deltaOf, numbers, format4}
 
 pub length-offsets : (before : ℕ) (ss : List Segment) → length (offsetsFrom before ss) ≡ length ss
 unfolding offsetsFrom
@@ -32,7 +32,7 @@ array-step gs x xs = go (eqb (x .delta) 0)
     go false = refl
 
 pub length-format4 : (language : ℕ) (ps : List Pair) → length (format4 language ps) ≡ lengthWith (length (segments ps)) (length (glyphArray ps))
-unfolding format4 header
+unfolding format4 header4
 length-format4 language ps =
     let ss = segments ps in
     let e = length-map ss endOf in

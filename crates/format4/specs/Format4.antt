@@ -1,4 +1,4 @@
--- The bytes of a format 4 subtable for a list of pairs (docs/01-rules.md, "Format 4").
+-- The bytes of a format 4 subtable for a list of pairs (docs/RULES.md, "Format 4").
 use Prim.Native.Nat.{ℕ, _+_, _-_, _*_, _^_}
 use mathlib.Core.List.{List, [], _∷_, _++_, map}
 use lib.Dec.{eqb, ltb}
@@ -25,9 +25,9 @@ abbrev pub lengthWith : ℕ → ℕ → ℕ
 lengthWith s g = 16 + 8 * s + 2 * g
 
 -- format, length, language, segCountX2, searchRange, entrySelector, rangeShift
-unfoldable pub header : ℕ → ℕ → ℕ → List ℕ
+unfoldable pub header4 : ℕ → ℕ → ℕ → List ℕ
 unfolding floorLog2
-header language s g =
+header4 language s g =
     let e = floorLog2 s in
     4 ∷ lengthWith s g ∷ language ∷ (2 * s) ∷ (2 * 2 ^ e) ∷ e ∷ (2 * s - 2 * 2 ^ e) ∷ []
 
@@ -46,7 +46,7 @@ columns ss array = map endOf ss ++ (0 ∷ (map startOf ss ++ (map deltaOf ss ++ 
 
 -- all numbers of the subtable
 abbrev pub numbers : ℕ → List Segment → List ℕ → List ℕ
-numbers language ss array = header language (length ss) (length array) ++ columns ss array
+numbers language ss array = header4 language (length ss) (length array) ++ columns ss array
 
 -- two bytes each, for the segments that the pairs are cut into and their glyph array
 unfoldable pub format4 : ℕ → List Pair → List ℕ

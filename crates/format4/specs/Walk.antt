@@ -27,7 +27,7 @@ pub record Adds (n : RangeCounter) (ss : List Segment) (m : RangeCounter) : Type
   pub glyphs : m .glyphs ≤ n .glyphs + 65536 * length ss
 
 -- what a walk over the pairs gives: their count, far from an overflow
-pub record Counts (ps : List Pair) (n : RangeCounter) : Type 0 where
+pub record CountedPairs (ps : List Pair) (n : RangeCounter) : Type 0 where
   pub is : n ≡ countOf ps
   pub below : Below 1000000000000 n
 

@@ -6,7 +6,7 @@ ghost use mathlib.Core.List.{_∷_, []};
 ghost use Prim.Native.Nat.{_≤_};
 ghost use Rattle.format4_cutting.specs.Steps.{toList};
 ghost use Rattle.format4_cutting.specs.Cutting.{closing, entriesOf, points};
-ghost use Rattle.format4.specs.Size.{counter, lengthOf};
+ghost use Rattle.format4.specs.Size.{counter, lengthOf4};
 ghost use Rattle.format4.specs.Walk.{Below, Adds};
 
 pub struct RangeCounter {
@@ -15,7 +15,7 @@ pub struct RangeCounter {
 }
 
 // What becomes of a format 4 subtable; one that fits comes with the counts that its writer needs.
-pub enum Size {
+pub enum Size4 {
     Empty,
     TooLong,
     Fits(RangeCounter),
@@ -89,7 +89,7 @@ impl RangeCounter {
 
     pub fn length(self) -> usize
         requires { ⌜ Below 1000000000000 self ⌝ }
-        ensures { λ r. ⌜ r ≡ lengthOf self ⌝ }
+        ensures { λ r. ⌜ r ≡ lengthOf4 self ⌝ }
     {
         16 + 8 * self.segments + 2 * self.glyphs
     }

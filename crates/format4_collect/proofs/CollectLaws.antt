@@ -10,7 +10,7 @@ use Rattle.laws.proofs.FrontLaws.{sets-over}
 use Rattle.laws.proofs.SearchLaws.{Looking, looking-start, looking-none}
 use Rattle.lists_marks.specs.Marks.{flagged, painted, Flags, Cleared}
 use Rattle.lists_marks.proofs.MarksLaws.{Saying, saying-none, saying-on, flagged-ext, length-flagged, cleared}
-use Rattle.format4_mapped.specs.declared.Segment.{Segment}
+use Rattle.format4_mapped.specs.declared.SourceSegment.{SourceSegment}
 use Rattle.format4_collect.specs.Walks.{Walked}
 use Rattle.format4_mapped.specs.Mapped4.{Read4, stops4, holds4, says4, lastSays, among4, maps4}
 use Rattle.format4_mapped.proofs.Mapped4Laws.{stop-on, stop-here, among-on}
@@ -26,7 +26,7 @@ module _ (xs : List ℕ) (at s len : ℕ) where
   collecting-start ps fs₀ e = record { looking = looking-start (stops4 xs at s) s; say = saying-none e }
 
   module _ (ps fs₀ fs : List ℕ) where
-    pub collecting-on : (i : ℕ) (g : Segment) (fs′ : List ℕ) → Collecting ps fs₀ fs i → i < s → Read4 xs at s i g → (g .start ≡ 0xFFFF → ⊥) → Flags ps fs₀
+    pub collecting-on : (i : ℕ) (g : SourceSegment) (fs′ : List ℕ) → Collecting ps fs₀ fs i → i < s → Read4 xs at s i g → (g .start ≡ 0xFFFF → ⊥) → Flags ps fs₀
         → fs′ ≡ painted (holds4 g) (says4 xs at s len i g) ps fs → Collecting ps fs₀ fs′ (i + 1)
     collecting-on i g fs′ l h r e k q =
         record {
@@ -34,7 +34,7 @@ module _ (xs : List ℕ) (at s len : ℕ) where
           say = saying-on (holds4 g) (says4 xs at s len i g) (among4 xs at s len (i + 1)) (l .say) k q (λ c. among-on xs at s len i c g r);
         }
 
-    pub collecting-stop : (i : ℕ) (g : Segment) → Collecting ps fs₀ fs i → i < s → Read4 xs at s i g → g .start ≡ 0xFFFF → fs ≡ sets fs₀ 0 (flagged (maps4 xs at s len) ps)
+    pub collecting-stop : (i : ℕ) (g : SourceSegment) → Collecting ps fs₀ fs i → i < s → Read4 xs at s i g → g .start ≡ 0xFFFF → fs ≡ sets fs₀ 0 (flagged (maps4 xs at s len) ps)
     unfolding maps4
     collecting-stop i g l h r e =
         l .say .is
@@ -56,7 +56,7 @@ module _ (xs : List ℕ) (at s len : ℕ) (ps fs₀ fs : List ℕ) (i : ℕ) (c 
   walked-again : sets fs 0 (replicate (length ps) 0) ≡ fs₀
   walked-again = saying-again (among4 xs at s len i) ps fs₀ fs (l .say) c
 
-  pub walked-stop : (g : Segment) → i < s → Read4 xs at s i g → g .start ≡ 0xFFFF → Walked true (maps4 xs at s len) ps fs₀ fs
+  pub walked-stop : (g : SourceSegment) → i < s → Read4 xs at s i g → g .start ≡ 0xFFFF → Walked true (maps4 xs at s len) ps fs₀ fs
   walked-stop g h r e = record { all = λ t. collecting-stop xs at s len ps fs₀ fs i g l h r e; again = walked-again }
 
   pub walked-end : s ≤ i → Walked true (maps4 xs at s len) ps fs₀ fs

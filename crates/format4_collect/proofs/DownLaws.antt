@@ -15,9 +15,9 @@ use Rattle.laws.proofs.ChoiceLaws.{by-test, by-leb}
 use Rattle.laws.proofs.SetsLaws.{getD-sets-in, getD-sets-other}
 use Rattle.lists_marks.specs.Marks.{flagOf, flagged, Flags, Cleared}
 use Rattle.lists_marks.proofs.MarksLaws.{length-flagged, flag-at}
-use Rattle.format4_mapped.specs.declared.Segment.{Segment}
+use Rattle.format4_mapped.specs.declared.SourceSegment.{SourceSegment}
 use Rattle.format4_mapped.specs.Mapped4.{Read4, stops4, holds4, says4, lastSays, among4, maps4}
-use Rattle.format4_collect.specs.Downward.{word, decided, Noted, DecidedBy}
+use Rattle.format4_collect.specs.Downward.{word, decided, NotedBlocks, DecidedBy}
 use Rattle.format4_collect.specs.Walks.{Told, Telling, Settled}
 use Rattle.format4_mapped.proofs.Mapped4Laws.{among-on}
 use Rattle.format4_collect.proofs.DownwardLaws.{decided-word, word-flag}
@@ -51,9 +51,9 @@ module _ (xs : List ℕ) (at s len : ℕ) where
   pub record Downing (noted ps fs₀ fs : List ℕ) (i : ℕ) : Type 0 where
     pub within : i ≤ s
     pub telling : Telling (maps4 xs at s len) (among4 xs at s len i) ps fs₀ fs
-    pub notes : Noted noted fs
+    pub notes : NotedBlocks noted fs
 
-  pub downing-start : (noted ps fs₀ : List ℕ) (i : ℕ) → (i ≡ first (stops4 xs at s) s 0) × (i ≤ s) → Cleared (length ps) fs₀ → Flags ps fs₀ → Noted noted fs₀
+  pub downing-start : (noted ps fs₀ : List ℕ) (i : ℕ) → (i ≡ first (stops4 xs at s) s 0) × (i ≤ s) → Cleared (length ps) fs₀ → Flags ps fs₀ → NotedBlocks noted fs₀
       → Downing noted ps fs₀ fs₀ i
   unfolding maps4
   downing-start noted ps fs₀ i e c k n =
@@ -63,8 +63,8 @@ module _ (xs : List ℕ) (at s len : ℕ) where
         notes = n;
       }
 
-  pub downing-on : (noted noted′ ps fs₀ fs fs′ : List ℕ) (i : ℕ) (g : Segment) → Downing noted ps fs₀ fs i → 0 < i → Read4 xs at s (i - 1) g
-      → DecidedBy (holds4 g) (says4 xs at s len (i - 1) g) ps fs fs′ → Noted noted′ fs′ → Downing noted′ ps fs₀ fs′ (i - 1)
+  pub downing-on : (noted noted′ ps fs₀ fs fs′ : List ℕ) (i : ℕ) (g : SourceSegment) → Downing noted ps fs₀ fs i → 0 < i → Read4 xs at s (i - 1) g
+      → DecidedBy (holds4 g) (says4 xs at s len (i - 1) g) ps fs fs′ → NotedBlocks noted′ fs′ → Downing noted′ ps fs₀ fs′ (i - 1)
   downing-on noted noted′ ps fs₀ fs fs′ i g d h r b n =
       let m : i - 1 + 1 ≡ i = omega arith in
       record {

@@ -14,9 +14,9 @@ use Rattle.laws.proofs.ChoiceLaws.{by-test, by-leb}
 use Rattle.lists_marks.specs.Marks.{between, flagOf, Bound, Flags, Inside}
 use Rattle.lists_marks.proofs.BelowLaws.{below-past, below-upto, inside}
 use Rattle.laws.proofs.ReadLaws.{getD-row}
-use Rattle.format4_mapped.specs.declared.Segment.{Segment}
+use Rattle.format4_mapped.specs.declared.SourceSegment.{SourceSegment}
 use Rattle.format4_mapped.specs.Mapped4.{Read4}
-use Rattle.format4_collect.specs.Downward.{word, decided, Held, Decided, Noted, DecidedBy}
+use Rattle.format4_collect.specs.Downward.{word, decided, Held, Decided, NotedBlocks, DecidedBy}
 
 -- ---- one flag
 
@@ -108,15 +108,15 @@ held-at v ps fs₀ fs start end low high j l d h = l .each j (d .order) h
 
 -- ---- blocks
 
-pub noted-none : (n : ℕ) (fs : List ℕ) → Noted (replicate n 0) fs
+pub noted-none : (n : ℕ) (fs : List ℕ) → NotedBlocks (replicate n 0) fs
 noted-none n fs = record { shut = λ b k s a h z. s (getD-row {A = ℕ} 0 n b) }
 
-module _ (v : ℕ → Bool) (noted ps fs : List ℕ) (low high : ℕ) (n : Noted noted fs) where
-  pub noted-kept : (fs′ : List ℕ) → Decided v ps fs fs′ low high → Noted noted fs′
+module _ (v : ℕ → Bool) (noted ps fs : List ℕ) (low high : ℕ) (n : NotedBlocks noted fs) where
+  pub noted-kept : (fs′ : List ℕ) → Decided v ps fs fs′ low high → NotedBlocks noted fs′
   noted-kept fs′ d =
       record { shut = λ b k s a h z. n .shut b k s a h (sym (stays v ps fs fs′ low high k d (n .shut b k s a h)) ∙ z) }
 
-  pub noted-more : (fs′ : List ℕ) → Decided v ps fs fs′ low high → low + 256 ≤ high → high ≤ 256 * (low / 256) + 256 → Noted (set noted (low / 256) 1) fs′
+  pub noted-more : (fs′ : List ℕ) → Decided v ps fs fs′ low high → low + 256 ≤ high → high ≤ 256 * (low / 256) + 256 → NotedBlocks (set noted (low / 256) 1) fs′
   noted-more fs′ d l u = record { shut = one }
     where
       one : (b k : ℕ) → (getD (set noted (low / 256) 1) b 0 ≡ 0 → ⊥) → 256 * b ≤ k → k < 256 * b + 256 → getD fs′ k 0 ≡ 0 → ⊥
@@ -152,7 +152,7 @@ below-few ps c n r b =
     let h : c < length ps = omega (arith, b .within) in
     omega (arith, b .is, below-upto ps c c r h (rising-over ps r c h)))
 
-pub span-few : (xs ps fs : List ℕ) (at s i n : ℕ) (g : Segment) → Flags ps fs → Read4 xs at s i g → Bound ps (g .end + 1) n → n ≤ 65536
+pub span-few : (xs ps fs : List ℕ) (at s i n : ℕ) (g : SourceSegment) → Flags ps fs → Read4 xs at s i g → Bound ps (g .end + 1) n → n ≤ 65536
 span-few xs ps fs at s i n g k r b = omega (arith, below-few ps (g .end + 1) n (k .rising) b, r .end-below)
 
 module _ (ps : List ℕ) (start end low high : ℕ) (r : Rising ps) (a : Bound ps start low) (b : Bound ps (end + 1) high) where

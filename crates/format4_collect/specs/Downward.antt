@@ -1,4 +1,4 @@
--- One segment, walking from the last to the first: a flag is 0 while no segment held its point, then 1 or 2 for yes or no, which stays.
+-- Inner: one segment, walking from the last to the first; no promise names it. A flag is 0 while no segment held its point, then 1 or 2 for yes or no, which stays.
 use Prim.Native.Nat.{ℕ, _+_, _*_, _<_, _≤_}
 use mathlib.Core.Path.{_≡_}
 use mathlib.Core.List.{List}
@@ -30,7 +30,7 @@ pub record Decided (v : ℕ → Bool) (ps fs fs′ : List ℕ) (low high : ℕ) 
   pub over : (k : ℕ) → high ≤ k → getD fs′ k 0 ≡ getD fs k 0
 
 -- where a block of 256 is noted, none of its flags is 0
-pub record Noted (noted fs : List ℕ) : Type 0 where
+pub record NotedBlocks (noted fs : List ℕ) : Type 0 where
   pub shut : (b k : ℕ) → (getD noted b 0 ≡ 0 → ⊥) → 256 * b ≤ k → k < 256 * b + 256 → getD fs k 0 ≡ 0 → ⊥
 
 -- the flags of the points that pass p become what v decides

@@ -1,4 +1,4 @@
--- The two walks over the segments: from the last to the first, and in order.
+-- Inner: the two walks over the segments, from the last to the first and in order; no promise names them.
 use Prim.Native.Nat.{ℕ, _%_, _<_, _≤_}
 use mathlib.Core.Path.{_≡_}
 use mathlib.Core.List.{List}

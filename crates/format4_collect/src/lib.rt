@@ -1,6 +1,6 @@
 // Which code points of a rising list a format 4 subtable maps, asked for all at once in one walk over the segments, in order or from the
 // last to the first. Walking down, blocks of points that are decided are passed over.
-use format4_mapped::Segment;
+use format4_mapped::SourceSegment;
 use lists_spans::Span;
 use source::Segments;
 ghost use mathlib.Core.Path.{_≡_};
@@ -8,7 +8,7 @@ ghost use Prim.Native.Nat.{_+_, _*_, _/_, _≤_, _<_};
 ghost use Rattle.lists_marks.specs.Marks.{Flags, flagged, flagOf, painted, Cleared};
 ghost use Rattle.source.specs.Room.{Room4};
 ghost use Rattle.format4_mapped.specs.Mapped4.{Read4, says4, holds4, among4, maps4};
-ghost use Rattle.format4_collect.specs.Downward.{decided, Held, Decided, Noted, DecidedBy};
+ghost use Rattle.format4_collect.specs.Downward.{decided, Held, Decided, NotedBlocks, DecidedBy};
 ghost use lib.ListN.{length};
 ghost use lib.Seq.{sets};
 ghost use Rattle.format4_collect.specs.Walks.{Telling, Settled, Walked};
@@ -34,7 +34,7 @@ fn decide_points(
     s: &[u8],
     t: Segments,
     i: usize,
-    segment: Segment,
+    segment: SourceSegment,
     points: &[u32],
     flags: &mut [u8],
     span: Span,
@@ -60,7 +60,7 @@ fn decide_block(
     s: &[u8],
     t: Segments,
     i: usize,
-    segment: Segment,
+    segment: SourceSegment,
     points: &[u32],
     flags: &mut [u8],
     noted: &mut [u8; 256],
@@ -71,10 +71,10 @@ fn decide_block(
     requires { ⌜ (i < t .segs) × (span .low < 65536) ⌝ }
     requires { ⌜ Held (now points) (segment .start) (segment .end) (span .low) (span .high) ⌝ }
     requires { ⌜ Flags (now points) (now flags) ⌝ }
-    requires { ⌜ Noted (now noted) (now flags) ⌝ }
+    requires { ⌜ NotedBlocks (now noted) (now flags) ⌝ }
     requires { ⌜ (span .low < span .high) × (span .high ≤ 256 * (span .low / 256) + 256) ⌝ }
     ensures { λ _. ⌜ Decided (says4 (now (s .entry)) (t .at) (t .segs) (t .len) i segment) (now (points .entry)) (now (flags .entry)) (now (flags .exit)) (span .low) (span .high) ⌝ }
-    ensures { λ _. ⌜ Noted (now (noted .exit)) (now (flags .exit)) ⌝ }
+    ensures { λ _. ⌜ NotedBlocks (now (noted .exit)) (now (flags .exit)) ⌝ }
 {
     if noted[span.low / BLOCK] != 0 {
         return;
@@ -90,7 +90,7 @@ fn decide_blocks(
     s: &[u8],
     t: Segments,
     i: usize,
-    segment: Segment,
+    segment: SourceSegment,
     points: &[u32],
     flags: &mut [u8],
     noted: &mut [u8; 256],
@@ -101,9 +101,9 @@ fn decide_blocks(
     requires { ⌜ (i < t .segs) × (span .low ≤ span .high) × (span .high ≤ 65536) ⌝ }
     requires { ⌜ Held (now points) (segment .start) (segment .end) (span .low) (span .high) ⌝ }
     requires { ⌜ Flags (now points) (now flags) ⌝ }
-    requires { ⌜ Noted (now noted) (now flags) ⌝ }
+    requires { ⌜ NotedBlocks (now noted) (now flags) ⌝ }
     ensures { λ _. ⌜ Decided (says4 (now (s .entry)) (t .at) (t .segs) (t .len) i segment) (now (points .entry)) (now (flags .entry)) (now (flags .exit)) (span .low) (span .high) ⌝ }
-    ensures { λ _. ⌜ Noted (now (noted .exit)) (now (flags .exit)) ⌝ }
+    ensures { λ _. ⌜ NotedBlocks (now (noted .exit)) (now (flags .exit)) ⌝ }
 {
     let mut j = span.low;
     while j < span.high {
@@ -119,7 +119,7 @@ pub fn decide_segment(
     s: &[u8],
     t: Segments,
     i: usize,
-    segment: Segment,
+    segment: SourceSegment,
     points: &[u32],
     flags: &mut [u8],
     noted: &mut [u8; 256],
@@ -128,9 +128,9 @@ pub fn decide_segment(
     requires { ⌜ Read4 (now s) (t .at) (t .segs) i segment ⌝ }
     requires { ⌜ i < t .segs ⌝ }
     requires { ⌜ Flags (now points) (now flags) ⌝ }
-    requires { ⌜ Noted (now noted) (now flags) ⌝ }
+    requires { ⌜ NotedBlocks (now noted) (now flags) ⌝ }
     ensures { λ _. ⌜ DecidedBy (holds4 segment) (says4 (now (s .entry)) (t .at) (t .segs) (t .len) i segment) (now (points .entry)) (now (flags .entry)) (now (flags .exit)) ⌝ }
-    ensures { λ _. ⌜ Noted (now (noted .exit)) (now (flags .exit)) ⌝ }
+    ensures { λ _. ⌜ NotedBlocks (now (noted .exit)) (now (flags .exit)) ⌝ }
 {
     let span = lists_spans::span_near(points, segment.start, segment.end, 0);
     if span.low < span.high {
@@ -153,7 +153,7 @@ fn mark_segment(
     s: &[u8],
     t: Segments,
     i: usize,
-    segment: Segment,
+    segment: SourceSegment,
     points: &[u32],
     flags: &mut [u8],
     near: usize,
@@ -178,7 +178,7 @@ fn mark_segment(
 }
 
 // Whether a segment starts where those before it end or behind: then few points are held twice.
-fn in_order(segment: Segment, past: u32) -> bool {
+fn in_order(segment: SourceSegment, past: u32) -> bool {
     past <= segment.start && segment.start <= segment.end
 }
 
@@ -194,7 +194,7 @@ fn mark_in_order(s: &[u8], t: Segments, points: &[u32], flags: &mut [u8]) -> boo
     let mut i = 0;
     while i < t.segs {
         let segment = format4_segments::segment_at(s, t, i);
-        if segment.start == Segment::WALK_END {
+        if segment.start == SourceSegment::WALK_END {
             return true;
         }
         if !in_order(segment, past) {
@@ -212,7 +212,7 @@ fn mark_down_by(s: &[u8], t: Segments, points: &[u32], flags: &mut [u8], noted: 
     requires { ⌜ Room4 (now s) t ⌝ }
     requires { ⌜ Flags (now points) (now flags) ⌝ }
     requires { ⌜ Cleared (length (now points)) (now flags) ⌝ }
-    requires { ⌜ Noted (now noted) (now flags) ⌝ }
+    requires { ⌜ NotedBlocks (now noted) (now flags) ⌝ }
     ensures { λ _. ⌜ Telling (maps4 (now (s .entry)) (t .at) (t .segs) (t .len)) (among4 (now (s .entry)) (t .at) (t .segs) (t .len) 0) (now (points .entry)) (now (flags .entry)) (now (flags .exit)) ⌝ }
 {
     let mut i = format4_segments::walk_end(s, t);

@@ -16,7 +16,7 @@ use Rattle.number.proofs.RowLaws.{put-one, length-encs, encs-append, encs-then,
 use Rattle.format4_cutting.specs.declared.Segment.{Segment}
 use Rattle.format4_cutting.specs.Cutting.{entriesOf, points}
 use Rattle.format4_cutting.specs.Steps.{arrayFrom}
-use Rattle.format4.specs.Format4.{floorLog2, offsetsFrom, header, endOf, startOf, deltaOf, numbers}
+use Rattle.format4.specs.Format4.{floorLog2, offsetsFrom, header4, endOf, startOf, deltaOf, numbers}
 use Rattle.format4.specs.Walk.{Fed}
 use Rattle.format4.proofs.Format4Laws.{length-offsets, array-step}
 use Rattle.format4_columns.specs.declared.RangeWriter.{RangeWriter}
@@ -126,14 +126,14 @@ pub whole-subtable : (language : ℕ) (gs : List ℕ) (ss : List Segment) (o : L
     ≡ sets o at (encs 2 (numbers language ss (arrayFrom gs ss)))
 whole-subtable language gs ss o at =
     let s = length ss in
-    let H = header language s (length (arrayFrom gs ss)) in
+    let H = header4 language s (length (arrayFrom gs ss)) in
     let E = map endOf ss in
     let Z : List ℕ = 0 ∷ [] in
     let S = map startOf ss in
     let D = map deltaOf ss in
     let F = offsetsFrom 0 ss in
     let A = arrayFrom gs ss in
-    let lH : length H ≡ 7 = unfold header in refl in
+    let lH : length H ≡ 7 = unfold header4 in refl in
     let lE = length-map ss endOf in
     let lS = length-map ss startOf in
     let lD = length-map ss deltaOf in
@@ -152,7 +152,7 @@ whole-subtable language gs ss o at =
 pub header-is : (o o₁ o₂ o₃ : List ℕ) (at language s g : ℕ) → o₁ ≡ sets o at (encs 2 (4 ∷ (16 + 8 * s + 2 * g) ∷ language ∷ (2 * s) ∷ []))
     → o₂ ≡ sets o₁ (at + 8) (encs 2 ((2 * 2 ^ floorLog2 s) ∷ floorLog2 s ∷ (2 * s - 2 * 2 ^ floorLog2 s) ∷ [])) → o₃ ≡ put 2 o₂ (at + 14 + 2 * s) 0
     → o₃ ≡ headed o at language s g
-unfolding header
+unfolding header4
 header-is o o₁ o₂ o₃ at language s g e₁ e₂ e₃ =
     let four : List ℕ = 4 ∷ (16 + 8 * s + 2 * g) ∷ language ∷ (2 * s) ∷ [] in
     let three : List ℕ = (2 * 2 ^ floorLog2 s) ∷ floorLog2 s ∷ (2 * s - 2 * 2 ^ floorLog2 s) ∷ [] in

@@ -6,7 +6,7 @@ use native.Mathlib.Omega.{arith}
 use lib.ListN.{length, getD, drop, length-append}
 use lib.Seq.{length-sets}
 use Rattle.laws.specs.Lists.{pairs}
-use Rattle.lists_runs.specs.Runs.{Ends}
+use Rattle.lists_runs.specs.Runs.{RunEndsAt}
 use Rattle.number.specs.Row.{encs}
 use Rattle.number.proofs.BigEndianLaws.{length-put}
 use Rattle.format4_cutting.specs.declared.Segment.{Segment}
@@ -15,13 +15,13 @@ use Rattle.format4_cutting.specs.declared.Absorbed.{Absorbed}
 use Rattle.format4_cutting.specs.declared.Finished.{Finished}
 use Rattle.format4_cutting.specs.Steps.{idle, grown, step, finish, toList, cutFrom}
 use Rattle.format4_cutting.proofs.StepsLaws.{entries-append, walk-step, walk-end}
-use Rattle.format4.specs.Size.{Columns}
+use Rattle.format4.specs.Size.{Columns16}
 use Rattle.format4.specs.Walk.{Fed}
 use Rattle.format4_cutting.specs.Cutting.{segments, closing, points}
 use Rattle.format4_cutting.proofs.WalkLaws.{walk-cuts}
 use Rattle.format4_cutting.proofs.RunLaws.{run-turn}
 use Rattle.format4_columns.specs.declared.RangeWriter.{RangeWriter}
-use Rattle.format4_columns.specs.Places.{partOf, nextOf, putOne, putAll, movedBy, Room, columnsAt, Apart}
+use Rattle.format4_columns.specs.Places.{partOf, nextOf, putOne, putAll, movedBy, SegmentsRoom, columnsAt, Apart}
 use Rattle.format4_columns.proofs.PlacesLaws.{put-columns}
 
 -- ---- room
@@ -30,21 +30,21 @@ fed-front : (a b : List Segment) (k : ℕ) → Fed k (a ++ b) → Fed k a
 fed-front [] b k f = tt
 fed-front (x ∷ a) b k f = (f .0, f .1, fed-front a b (k - points x) (f .2))
 
-pub room-front : {w : RangeWriter} {k l : ℕ} (a b : List Segment) → Room w (a ++ b) k l → Room w a k l
+pub room-front : {w : RangeWriter} {k l : ℕ} (a b : List Segment) → SegmentsRoom w (a ++ b) k l → SegmentsRoom w a k l
 room-front {w} {k} a b r =
     let p = r .places in
     let e = length-append a b in
     let f = entries-append a b in
     record { places = omega arith; fed = fed-front a b (k - w .next) (r .fed) }
 
-pub room-next : {w : RangeWriter} {k l : ℕ} (x : Segment) (xs : List Segment) → Room w (x ∷ xs) k l → Room (nextOf w x) xs k l
+pub room-next : {w : RangeWriter} {k l : ℕ} (x : Segment) (xs : List Segment) → SegmentsRoom w (x ∷ xs) k l → SegmentsRoom (nextOf w x) xs k l
 room-next {w} {k} x xs r =
     let p = r .places in
     let q = r .fed .1 in
     let left : k - w .next - points x ≡ k - (w .next + points x) = omega arith in
     record { places = omega arith; fed = subst (λ (n : ℕ). Fed n xs) left (r .fed .2) }
 
-room-back : {w : RangeWriter} {k l : ℕ} (a b : List Segment) → Room w (a ++ b) k l → Room (movedBy w a) b k l
+room-back : {w : RangeWriter} {k l : ℕ} (a b : List Segment) → SegmentsRoom w (a ++ b) k l → SegmentsRoom (movedBy w a) b k l
 unfolding movedBy
 room-back [] b r = r
 room-back (x ∷ a) b r = room-back a b (room-next x (a ++ b) r)
@@ -67,11 +67,11 @@ length-putAll gs o w (x ∷ a) = length-putAll gs (putOne gs o w x) (nextOf w x)
 -- ---- what is left to write, and room for it
 
 pub record Left (gs o : List ℕ) (w : RangeWriter) (ss : List Segment) (l : ℕ) (whole : List ℕ) : Type 0 where
-  pub room : Room w ss (length gs) l
+  pub room : SegmentsRoom w ss (length gs) l
   pub long : length o ≡ l
   pub goes : putAll gs o w ss ≡ whole
 
-left-room : {gs o : List ℕ} {w : RangeWriter} {l : ℕ} {whole : List ℕ} (a b : List Segment) → Left gs o w (a ++ b) l whole → Room w a (length gs) (length o)
+left-room : {gs o : List ℕ} {w : RangeWriter} {l : ℕ} {whole : List ℕ} (a b : List Segment) → Left gs o w (a ++ b) l whole → SegmentsRoom w a (length gs) (length o)
 left-room {gs} {o} {w} {l} a b r = rw (r .long) (room-front a b (r .room))
 
 left-next : {gs o : List ℕ} {w : RangeWriter} {l : ℕ} {whole p : List ℕ} {v : RangeWriter} (a b : List Segment)
@@ -90,7 +90,7 @@ pub record Writing (cs gs o₀ : List ℕ) (w₀ : RangeWriter) (s : RangeState)
   pub left : Left gs o w (cutFrom s (pairs (drop i cs) (drop i gs))) (length o₀) (columnsAt gs o₀ w₀ 0 (segments (pairs cs gs)))
 
 pub writing-start : (cs gs o : List ℕ) (w : RangeWriter) (s : RangeState) → s ≡ idle → Apart w (length (segments (pairs cs gs))) 0
-    → Room w (segments (pairs cs gs)) (length gs) (length o) → Writing cs gs o w s o w 0
+    → SegmentsRoom w (segments (pairs cs gs)) (length gs) (length o) → Writing cs gs o w s o w 0
 writing-start cs gs o w s e r m = rw e (record {
   within = omega arith;
   left = rw (← walk-cuts (pairs cs gs)) (record { room = m; long = refl; goes = put-columns gs (segments (pairs cs gs)) o w 0 r (m .fed) });
@@ -100,13 +100,13 @@ module _ (cs gs o₀ : List ℕ) (w₀ : RangeWriter) (s : RangeState) (o : List
   abbrev whole : List ℕ
   whole = columnsAt gs o₀ w₀ 0 (segments (pairs cs gs))
 
-  module _ (a : Absorbed) (k : Columns cs gs) (h : i < length cs) (e : a ≡ step s (getD cs i 0) (getD gs i 0)) where
-    pub writing-room : Room w (toList (a .out)) (length gs) (length o)
+  module _ (a : Absorbed) (k : Columns16 cs gs) (h : i < length cs) (e : a ≡ step s (getD cs i 0) (getD gs i 0)) where
+    pub writing-room : SegmentsRoom w (toList (a .out)) (length gs) (length o)
     writing-room = left-room (toList (a .out)) _ (rw (walk-step s cs gs i h (omega (arith, k .even)), ← e) at (l .left))
 
     -- a run: its first pair is absorbed, and the state grows to its last
     pub writing-on : (p : List ℕ) (v : RangeWriter) → (v ≡ movedBy w (toList (a .out))) × (p ≡ putAll gs o w (toList (a .out)))
-        → (j : ℕ) (t : RangeState) → Ends cs gs i j → t ≡ grown (a .state) (getD cs (j - 1) 0) (getD gs (j - 1) 0) → Writing cs gs o₀ w₀ t p v j
+        → (j : ℕ) (t : RangeState) → RunEndsAt cs gs i j → t ≡ grown (a .state) (getD cs (j - 1) 0) (getD gs (j - 1) 0) → Writing cs gs o₀ w₀ t p v j
     writing-on p v u j t r g = record {
       within = r .within;
       left = left-next (toList (a .out)) _ (rw (run-turn cs gs s i a j t (k .even) e r g) at (l .left)) (u .0) (u .1);
@@ -116,14 +116,14 @@ module _ (cs gs o₀ : List ℕ) (w₀ : RangeWriter) (s : RangeState) (o : List
     end : Left gs o w (toList (f .out) ++ closing (f .close)) (length o₀) whole
     end = rw (walk-end s cs gs i h, ← e) at (l .left)
 
-    pub ending-room : Room w (toList (f .out)) (length gs) (length o)
+    pub ending-room : SegmentsRoom w (toList (f .out)) (length gs) (length o)
     ending-room = left-room (toList (f .out)) _ end
 
     module _ (p : List ℕ) (v : RangeWriter) (t : (v ≡ movedBy w (toList (f .out))) × (p ≡ putAll gs o w (toList (f .out)))) where
       ended : Left gs p v (closing (f .close)) (length o₀) whole
       ended = left-next (toList (f .out)) (closing (f .close)) end (t .0) (t .1)
 
-      pub closing-room : Room v (closing (f .close)) (length gs) (length p)
+      pub closing-room : SegmentsRoom v (closing (f .close)) (length gs) (length p)
       closing-room = rw (ended .long) (ended .room)
 
       pub ended-long : length p ≡ length o₀

@@ -13,7 +13,7 @@ use Rattle.number.specs.Row.{encs}
 use Rattle.format4_cutting.specs.declared.Segment.{Segment}
 use Rattle.format4_cutting.specs.Steps.{entries, arrayFrom}
 use Rattle.format4_cutting.specs.Cutting.{entriesOf, points}
-use Rattle.format4.specs.Format4.{lengthWith, header, endOf, startOf, deltaOf, offsetsFrom}
+use Rattle.format4.specs.Format4.{lengthWith, header4, endOf, startOf, deltaOf, offsetsFrom}
 use Rattle.format4.specs.Walk.{Fed}
 use Rattle.format4_columns.specs.declared.RangeWriter.{RangeWriter}
 
@@ -51,7 +51,7 @@ movedBy w [] = w
 movedBy w (x ∷ xs) = movedBy (nextOf w x) xs
 
 -- no place is near the end of the address space
-pub record Small (w : RangeWriter) : Type 0 where
+pub record FarFromEnd (w : RangeWriter) : Type 0 where
   pub ends : w .ends < 9223372036854775808
   pub starts : w .starts < 9223372036854775808
   pub deltas : w .deltas < 9223372036854775808
@@ -60,7 +60,7 @@ pub record Small (w : RangeWriter) : Type 0 where
   pub next : w .next < 9223372036854775808
 
 -- room for n segments with g entries in l bytes; the array lies less than 65,536 bytes past the offsets, as it does in a subtable
-pub record Places (w : RangeWriter) (n g k l : ℕ) : Type 0 where
+pub record ColumnsRoom (w : RangeWriter) (n g k l : ℕ) : Type 0 where
   pub ends : w .ends + 2 * n ≤ l
   pub starts : w .starts + 2 * n ≤ l
   pub deltas : w .deltas + 2 * n ≤ l
@@ -71,8 +71,8 @@ pub record Places (w : RangeWriter) (n g k l : ℕ) : Type 0 where
   pub most : k + n < 1000000
 
 -- room for the segments, and glyphs enough among k
-pub record Room (w : RangeWriter) (ss : List Segment) (k l : ℕ) : Type 0 where
-  pub places : Places w (length ss) (entries ss) k l
+pub record SegmentsRoom (w : RangeWriter) (ss : List Segment) (k l : ℕ) : Type 0 where
+  pub places : ColumnsRoom w (length ss) (entries ss) k l
   pub fed : Fed (k - w .next) ss
 
 -- the columns, each at its place, and the glyph array; all else as it was. `before` entries of the array stand before its place
@@ -96,7 +96,7 @@ placesAt at s = record { ends = at + 14; starts = at + 16 + 2 * s; deltas = at +
 
 -- the header, and the zero after the ends
 abbrev pub headed : List ℕ → ℕ → ℕ → ℕ → ℕ → List ℕ
-headed o at language s g = sets (sets o at (encs 2 (header language s g))) (at + 14 + 2 * s) (encs 2 (0 ∷ []))
+headed o at language s g = sets (sets o at (encs 2 (header4 language s g))) (at + 14 + 2 * s) (encs 2 (0 ∷ []))
 
 -- the length fits its field, and the subtable the output
 pub record Space (s g at l : ℕ) : Type 0 where

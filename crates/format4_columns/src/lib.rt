@@ -3,7 +3,7 @@ use format4_cutting::Committed;
 use format4_cutting::Segment;
 ghost use mathlib.Core.Path.{_≡_};
 ghost use Prim.Native.Nat.{_+_, _≤_, _<_, _-_, _*_};
-ghost use Rattle.format4_columns.specs.Places.{offsetAt, placesAt, nextOf, putThree, putGlyphs, putOne, putAll, movedBy, Small, Room};
+ghost use Rattle.format4_columns.specs.Places.{offsetAt, placesAt, nextOf, putThree, putGlyphs, putOne, putAll, movedBy, FarFromEnd, SegmentsRoom};
 ghost use mathlib.Core.List.{_∷_, []};
 ghost use lib.ListN.{length, take, drop};
 ghost use lib.Seq.{sets};
@@ -72,7 +72,7 @@ fn start_end_delta(w: RangeWriter, out: &mut [u8], x: Segment)
 }
 
 fn rangeoffset_glyph_ids(w: RangeWriter, out: &mut [u8], glyphs: &[u16], x: Segment)
-    requires { ⌜ Room w (x ∷ []) (length (now glyphs)) (length (now out)) ⌝ }
+    requires { ⌜ SegmentsRoom w (x ∷ []) (length (now glyphs)) (length (now out)) ⌝ }
     ensures { λ _. ⌜ now (out .exit) ≡ putGlyphs (now (glyphs .entry)) (now (out .entry)) w x ⌝ }
 {
     let offset = w.offset_of(x);
@@ -83,7 +83,7 @@ fn rangeoffset_glyph_ids(w: RangeWriter, out: &mut [u8], glyphs: &[u16], x: Segm
 
 // The places behind a segment's.
 fn after(w: RangeWriter, x: Segment) -> RangeWriter
-    requires { ⌜ Small w ⌝ }
+    requires { ⌜ FarFromEnd w ⌝ }
     ensures { λ r. ⌜ r ≡ nextOf w x ⌝ }
 {
     RangeWriter {
@@ -97,7 +97,7 @@ fn after(w: RangeWriter, x: Segment) -> RangeWriter
 }
 
 fn write_one_range(w: RangeWriter, out: &mut [u8], glyphs: &[u16], x: Segment) -> RangeWriter
-    requires { ⌜ Room w (x ∷ []) (length (now glyphs)) (length (now out)) ⌝ }
+    requires { ⌜ SegmentsRoom w (x ∷ []) (length (now glyphs)) (length (now out)) ⌝ }
     ensures { λ r. ⌜ (r ≡ nextOf w x) × (now (out .exit) ≡ putOne (now (glyphs .entry)) (now (out .entry)) w x) ⌝ }
 {
     start_end_delta(w, out, x);
@@ -106,7 +106,7 @@ fn write_one_range(w: RangeWriter, out: &mut [u8], glyphs: &[u16], x: Segment) -
 }
 
 pub fn absorb(w: RangeWriter, out: &mut [u8], glyphs: &[u16], c: Committed) -> RangeWriter
-    requires { ⌜ Room w (toList c) (length (now glyphs)) (length (now out)) ⌝ }
+    requires { ⌜ SegmentsRoom w (toList c) (length (now glyphs)) (length (now out)) ⌝ }
     ensures { λ r. ⌜ (r ≡ movedBy w (toList c)) × (now (out .exit) ≡ putAll (now (glyphs .entry)) (now (out .entry)) w (toList c)) ⌝ }
 {
     match c {
@@ -121,7 +121,7 @@ pub fn absorb(w: RangeWriter, out: &mut [u8], glyphs: &[u16], c: Committed) -> R
 
 // The closing segment, if there is one.
 pub fn close(w: RangeWriter, out: &mut [u8], glyphs: &[u16], close: bool)
-    requires { ⌜ Room w (closing close) (length (now glyphs)) (length (now out)) ⌝ }
+    requires { ⌜ SegmentsRoom w (closing close) (length (now glyphs)) (length (now out)) ⌝ }
     ensures { λ _. ⌜ now (out .exit) ≡ putAll (now (glyphs .entry)) (now (out .entry)) w (closing close) ⌝ }
 {
     if close {

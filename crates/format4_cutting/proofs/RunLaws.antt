@@ -10,7 +10,7 @@ use borrow.Author.Tests.{eq-eqb}
 use Rattle.laws.specs.Choice.{pick}
 use Rattle.laws.specs.Lists.{pairs}
 use Rattle.laws.proofs.ChoiceLaws.{by-pick}
-use Rattle.lists_runs.specs.Runs.{Ends}
+use Rattle.lists_runs.specs.Runs.{RunEndsAt}
 use Rattle.lists_runs.proofs.EndLaws.{Next, run-along}
 use Rattle.format4_cutting.specs.declared.RangeState.{RangeState}
 use Rattle.format4_cutting.specs.declared.Committed.the-variants.{None}
@@ -53,7 +53,7 @@ step-on s c g r p q = rw (eq-eqb c (s .end + 1) p, eq-eqb g (s .glyph + 1) q, r)
 
 module _ (cs gs : List ℕ) (even : length cs ≡ length gs) where
   -- what is left behind a run's first pair is what is left behind its last
-  run-left : (s : RangeState) (i e : ℕ) → Ends cs gs i e → Last (getD cs i 0) (getD gs i 0) s
+  run-left : (s : RangeState) (i e : ℕ) → RunEndsAt cs gs i e → Last (getD cs i 0) (getD gs i 0) s
       → cutFrom s (pairs (drop (i + 1) cs) (drop (i + 1) gs)) ≡ cutFrom (grown s (getD cs (e - 1) 0) (getD gs (e - 1) 0)) (pairs (drop e cs) (drop e gs))
   run-left s i e r l =
       let z : e - 1 + 1 ≡ e = omega (arith, r .behind) in
@@ -70,7 +70,7 @@ module _ (cs gs : List ℕ) (even : length cs ≡ length gs) where
 
 -- one turn of such a walk: what is left at i is what the pair at i commits, and what is left behind the run
 pub run-turn : (cs gs : List ℕ) (s : RangeState) (i : ℕ) (a : Absorbed) (e : ℕ) (t : RangeState) → length cs ≡ length gs
-    → a ≡ step s (getD cs i 0) (getD gs i 0) → Ends cs gs i e → t ≡ grown (a .state) (getD cs (e - 1) 0) (getD gs (e - 1) 0)
+    → a ≡ step s (getD cs i 0) (getD gs i 0) → RunEndsAt cs gs i e → t ≡ grown (a .state) (getD cs (e - 1) 0) (getD gs (e - 1) 0)
     → cutFrom s (pairs (drop i cs) (drop i gs)) ≡ toList (a .out) ++ cutFrom t (pairs (drop e cs) (drop e gs))
 run-turn cs gs s i a e t even p r u =
     let h : i < length cs = omega (arith, r .behind, r .within) in

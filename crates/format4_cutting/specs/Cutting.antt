@@ -1,4 +1,4 @@
--- The cutting of a list of pairs into the segments of a format 4 subtable, as docs/01-rules.md tells it ("Format 4"): ranges, the
+-- The cutting of a list of pairs into the segments of a format 4 subtable, as docs/RULES.md tells it ("Format 4"): ranges, the
 -- runs inside them, and which runs are committed together. The code goes pair by pair; that it gives the same is walk-cuts.
 use Prim.Native.Nat.{ℕ, _+_, _-_, _*_, _%_}
 use mathlib.Core.List.{List, [], _∷_, _++_, map}

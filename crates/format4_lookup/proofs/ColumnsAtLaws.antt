@@ -18,7 +18,7 @@ use Rattle.format4_cutting.specs.declared.Segment.{Segment}
 use Rattle.format4_cutting.specs.Steps.{entries}
 use Rattle.format4_cutting.specs.Cutting.{segments, glyphArray, entriesOf}
 use Rattle.source.specs.Fields.{endCode, startCode, idDelta, idRangeOffset, glyphIdArray}
-use Rattle.format4.specs.Format4.{offsetsFrom, header, endOf, startOf, deltaOf, numbers, format4}
+use Rattle.format4.specs.Format4.{offsetsFrom, header4, endOf, startOf, deltaOf, numbers, format4}
 use Rattle.format4.proofs.Format4Laws.{length-offsets}
 use Rattle.format4_lookup.proofs.FitsLaws.{SegmentFits, Low}
 
@@ -85,8 +85,8 @@ module _ (language : ℕ) (ss : List Segment) (array : List ℕ) where
   at-seam xs ys n k e = rw e (getD-append-add xs ys n 0)
 
   ends-from : (k : ℕ) → getD N (7 + k) 0 ≡ getD from-ends k 0
-  unfolding header
-  ends-from k = at-seam (header language S (length array)) from-ends k (7 + k) refl
+  unfolding header4
+  ends-from k = at-seam (header4 language S (length array)) from-ends k (7 + k) refl
 
   starts-from : (k : ℕ) → getD N (8 + S + k) 0 ≡ getD from-starts k 0
   starts-from k =

@@ -12,19 +12,19 @@ use Rattle.laws.proofs.EachLaws.{each-append, each-of, each-both, each-parts, e
 use Rattle.format4_cutting.specs.declared.Segment.{Segment}
 use Rattle.format4_cutting.specs.Cutting.{rangesOf, runsOf, Cut, cutOf, present, cutRange, cuts, firstCode, lastCode, segmentOf, lastEnd, segments, glyphs, arrayOf, glyphArray, closing}
 use Rattle.format4_cutting.proofs.CuttingLaws.{parts, cuts-pairs, runs-each, cuts-each}
-use Rattle.format4_lookup.specs.CutLookup.{Fits}
+use Rattle.format4_lookup.specs.CutLookup.{Fits16}
 
 abbrev pub Fit : Cut → Type 0
-Fit x = Each Fits (x .pairs)
+Fit x = Each Fits16 (x .pairs)
 
-pub cuts-fit : (ps : List Pair) → Each Fits ps → Each Fit (cuts ps)
-cuts-fit ps h = each-mapped (Each Fits) (λ (x : Cut). x .pairs) (cuts ps) (each-parts Fits (parts (cuts ps)) (rw (cuts-pairs ps) h))
+pub cuts-fit : (ps : List Pair) → Each Fits16 ps → Each Fit (cuts ps)
+cuts-fit ps h = each-mapped (Each Fits16) (λ (x : Cut). x .pairs) (cuts ps) (each-parts Fits16 (parts (cuts ps)) (rw (cuts-pairs ps) h))
 
-pub first-low : (ps : List Pair) → Each Fits ps → firstCode ps < 65536
+pub first-low : (ps : List Pair) → Each Fits16 ps → firstCode ps < 65536
 first-low [] h = omega arith
 first-low (p ∷ ps) h = h .0 .0
 
-last-low : (ps : List Pair) → Each Fits ps → lastCode ps < 65536
+last-low : (ps : List Pair) → Each Fits16 ps → lastCode ps < 65536
 last-low [] h = omega arith
 last-low (p ∷ []) h = h .0 .0
 last-low (p ∷ q ∷ ps) h = last-low (q ∷ ps) (h .1)
@@ -63,7 +63,7 @@ closing-fits : (t : Bool) → Each SegmentFits (closing t)
 closing-fits true = (record { start = omega arith; end = omega arith; delta = omega arith }, tt)
 closing-fits false = tt
 
-pub segments-fit : (ps : List Pair) → Each Fits ps → Each SegmentFits (segments ps)
+pub segments-fit : (ps : List Pair) → Each Fits16 ps → Each SegmentFits (segments ps)
 unfolding segments
 segments-fit ps h =
     let fit : (x : Cut) → Fit x × DeltaFits x → SegmentFits (segmentOf x) = λ x f. record { start = first-low (x .pairs) (f .0); end = last-low (x .pairs) (f .0); delta = f .1 } in
@@ -80,8 +80,8 @@ Low n = n < 65536
 array-low : (x : Cut) → Fit x → Each Low (arrayOf x)
 array-low x h =
     by-pick (Each Low) (eqb (x .delta) 0) (glyphs (x .pairs)) []
-    (λ _. each-map Low (λ (p : Pair). p .1) (x .pairs) (each-of Fits (λ (p : Pair). p .1 < 65536) (λ p f. f .1) (x .pairs) h)) (λ _. tt)
+    (λ _. each-map Low (λ (p : Pair). p .1) (x .pairs) (each-of Fits16 (λ (p : Pair). p .1 < 65536) (λ p f. f .1) (x .pairs) h)) (λ _. tt)
 
-pub array-fits : (ps : List Pair) → Each Fits ps → Each Low (glyphArray ps)
+pub array-fits : (ps : List Pair) → Each Fits16 ps → Each Low (glyphArray ps)
 unfolding glyphArray
 array-fits ps h = each-concat Low arrayOf (cuts ps) (each-of Fit (λ (x : Cut). Each Low (arrayOf x)) array-low (cuts ps) (cuts-fit ps h))

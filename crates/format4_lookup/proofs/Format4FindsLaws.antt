@@ -23,16 +23,16 @@ use Rattle.heads_lookup.specs.declared.Found.the-variants.{Nothing, Glyph}
 use Rattle.heads_lookup.specs.Lookup.{find4, lookup4, glyphOf}
 use Rattle.heads_lookup.proofs.StandsLaws.{lookup4-stands}
 use Rattle.format4.specs.Format4.{format4}
-use Rattle.format4_lookup.specs.CutLookup.{unlisted, Fits, Listed}
+use Rattle.format4_lookup.specs.CutLookup.{unlisted, Fits16, Listed16}
 use Rattle.format4_lookup.proofs.FitsLaws.{segments-fit, array-fits}
 use Rattle.format4_lookup.proofs.LookupLaws.{segments-find}
-use Rattle.format4_lookup.specs.Lookup.{Written, foundIn}
+use Rattle.format4_lookup.specs.Lookup.{FieldsFit, foundIn}
 use Rattle.format4_lookup.proofs.ColumnsAtLaws.{Held, format4-numbers, entries-at, columns-held}
 use Rattle.format4_lookup.proofs.ColumnsFindLaws.{columns-find}
 use Rattle.format4.proofs.Format4Laws.{length-format4}
 use Rattle.format4_lookup.proofs.Format4KindLaws.{format4-kind}
 
-module _ (language : ℕ) (ps : List Pair) (l : Listed ps) (w : Written language ps) where
+module _ (language : ℕ) (ps : List Pair) (l : Listed16 ps) (w : FieldsFit language ps) where
   abbrev T : List ℕ
   T = format4 language ps
 
@@ -56,7 +56,7 @@ module _ (language : ℕ) (ps : List Pair) (l : Listed ps) (w : Written language
   find-high : (c : ℕ) → 65535 < c → foundIn ps c ≡ find4 T 0 S (length T) c
   unfolding find4
   find-high c h =
-      let others = each-of Fits (λ (p : Pair). p .0 ≡ c → ⊥) (λ p f e. let b = f .0 in omega arith) ps (l .fits) in
+      let others = each-of Fits16 (λ (p : Pair). p .0 ≡ c → ⊥) (λ p f e. let b = f .0 in omega arith) ps (l .fits) in
       if-lt 0xFFFF c Nothing _ h (rw (listed-none (unlisted Nothing Glyph c) Glyph ps c others, ne-eqb c 65535 (λ e. omega arith)))
 
   -- ---- by itself
@@ -94,7 +94,7 @@ module _ (language : ℕ) (ps : List Pair) (l : Listed ps) (w : Written language
 
 -- ---- two columns as pairs: what is found, one by one
 
-module _ (language : ℕ) (cs gs : List ℕ) (l : Listed (pairs cs gs)) (w : Written language (pairs cs gs)) where
+module _ (language : ℕ) (cs gs : List ℕ) (l : Listed16 (pairs cs gs)) (w : FieldsFit language (pairs cs gs)) where
   pub gives-glyph : (k : ℕ) → Rising cs → length cs ≡ length gs → k < length cs → lookup4 (format4 language (pairs cs gs)) 0 (getD cs k 0) ≡ Glyph (getD gs k 0)
   gives-glyph k r e h = format4-gives language (pairs cs gs) l w (getD cs k 0) ∙ listed-nth (unlisted Nothing Glyph (getD cs k 0)) Glyph cs gs k r e h
 

@@ -14,13 +14,13 @@ use Rattle.source.specs.declared.Kind.the-variants.{Format4}
 use Rattle.source.specs.Kind as source
 use Rattle.source.proofs.KindLaws.{gives4, Readable4, lengthOf}
 use Rattle.source.proofs.StandsLaws.{kind-stands}
-use Rattle.format4.specs.Format4.{lengthWith, header, format4}
+use Rattle.format4.specs.Format4.{lengthWith, header4, format4}
 use Rattle.format4.specs.declared.RangeCounter.{RangeCounter}
-use Rattle.format4.specs.declared.Size.the-variants.{Fits}
-use Rattle.format4.specs.Size.{sizeOf}
+use Rattle.format4.specs.declared.Size4.the-variants.{Fits}
+use Rattle.format4.specs.Size.{sizeOf4}
 use Rattle.format4.proofs.Format4Laws.{length-format4}
 use Rattle.format4.proofs.CountLaws.{fits-tells, length-told}
-use Rattle.format4_lookup.specs.Lookup.{Written}
+use Rattle.format4_lookup.specs.Lookup.{FieldsFit}
 use Rattle.format4_lookup.proofs.ColumnsAtLaws.{format4-numbers, number-at}
 
 module _ (language : ℕ) (ps : List Pair) where
@@ -30,8 +30,8 @@ module _ (language : ℕ) (ps : List Pair) where
   abbrev S : ℕ
   S = length (segments ps)
 
-  pub format4-readable : Written language ps → Readable4 T 0 language S (length T)
-  unfolding header
+  pub format4-readable : FieldsFit language ps → Readable4 T 0 language S (length T)
+  unfolding header4
   format4-readable w =
       let n = number-at language (segments ps) (glyphArray ps) in
       let e = length-format4 language ps in
@@ -52,25 +52,25 @@ module _ (language : ℕ) (ps : List Pair) where
         fits = omega arith;
       }
 
-  pub format4-kind : Written language ps → source.kindAt T 0 ≡ Format4 language S (length T)
+  pub format4-kind : FieldsFit language ps → source.kindAt T 0 ≡ Format4 language S (length T)
   format4-kind w = sym (gives4 T 0 (format4-readable w))
 
   -- wherever it stands
-  module _ {xs : List ℕ} {at : ℕ} (st : Stands xs at T) (w : Written language ps) where
+  module _ {xs : List ℕ} {at : ℕ} (st : Stands xs at T) (w : FieldsFit language ps) where
     pub format4-kind-stands : source.kindAt xs at ≡ Format4 language S (length T)
     format4-kind-stands = kind-stands st (omega (arith, length-format4 language ps)) (ap lengthOf (format4-kind w)) ∙ format4-kind w
 
-  pub format4-kind-between : (front back : List ℕ) → Written language ps → source.kindAt (front ++ (T ++ back)) (length front) ≡ Format4 language S (length T)
+  pub format4-kind-between : (front back : List ℕ) → FieldsFit language ps → source.kindAt (front ++ (T ++ back)) (length front) ≡ Format4 language S (length T)
   format4-kind-between front back w = format4-kind-stands (stands-append front T back) w
 
   -- in what a writer leaves
-  pub format4-kind-sets : (out : List ℕ) (at : ℕ) → at + length T ≤ length out → Written language ps → source.kindAt (sets out at T) at ≡ Format4 language S (length T)
+  pub format4-kind-sets : (out : List ℕ) (at : ℕ) → at + length T ≤ length out → FieldsFit language ps → source.kindAt (sets out at T) at ≡ Format4 language S (length T)
   format4-kind-sets out at h w = format4-kind-stands (stands-sets out at T h) w
 
 -- ---- a size that fits
 
 -- where the size is found to fit, the subtable can be written
-pub fits-written : {n : RangeCounter} (language : ℕ) (ps : List Pair) → sizeOf ps ≡ Fits n → language < 65536 → Written language ps
+pub fits-written : {n : RangeCounter} (language : ℕ) (ps : List Pair) → sizeOf4 ps ≡ Fits n → language < 65536 → FieldsFit language ps
 fits-written {n} language ps e h =
     let t = fits-tells ps n e in
     record { short = rw (length-told language ps n t) (t .short); language-fits = h }

@@ -12,10 +12,10 @@ use Rattle.format4_cutting.specs.Cutting.{segments, pairDelta, closing, entries
 use Rattle.format4_cutting.proofs.CuttingLaws.{length-array}
 use Rattle.format4_cutting.proofs.WalkLaws.{walk-cuts}
 use Rattle.format4.specs.Format4.{format4}
-use Rattle.format4.specs.declared.Size.the-variants.{TooLong, Fits}
-use Rattle.format4.specs.Size.{sizeOf, countOf, lengthOf}
+use Rattle.format4.specs.declared.Size4.the-variants.{TooLong, Fits}
+use Rattle.format4.specs.Size.{sizeOf4, countOf, lengthOf4}
 use Rattle.format4.proofs.Format4Laws.{length-format4}
-use Rattle.format4_lookup.specs.Lone.{Point, Lone, alone, spaced}
+use Rattle.format4_lookup.specs.Lone.{LonePoint, Lone, alone, spaced}
 
 commit-alone : (p : Pair) → toList (commit (begun (p .0) (p .1)) 8) ≡ alone p ∷ []
 unfolding commit
@@ -31,7 +31,7 @@ unfolding cutFrom step finish
 segments-lone [] h = walk-cuts []
 segments-lone (p ∷ ps) h = walk-cuts (p ∷ ps) ∙ walk-lone p ps h
 
-entries-alone : (p : Pair) → Point p → entriesOf (alone p) ≡ 0
+entries-alone : (p : Pair) → LonePoint p → entriesOf (alone p) ≡ 0
 entries-alone p h = rw (ne-eqb (pairDelta (p .0) (p .1)) 0 (h .turns))
 
 entries-lone : (ps : List Pair) → Lone ps → entries (map alone ps ++ closing true) ≡ 0
@@ -54,15 +54,15 @@ module _ (ps : List Pair) (h : Lone ps) where
   lone-short language n = omega (arith, length-lone language)
 
 -- too long whatever the room
-pub lone-too-long : (ps : List Pair) → Lone ps → 8189 ≤ length ps → sizeOf ps ≡ TooLong
-unfolding sizeOf
+pub lone-too-long : (ps : List Pair) → Lone ps → 8189 ≤ length ps → sizeOf4 ps ≡ TooLong
+unfolding sizeOf4
 lone-too-long [] h n = absurd (omega arith)
-lone-too-long (p ∷ ps) h n = rw (lt-leb (lengthOf (countOf (p ∷ ps))) 65535 (omega (arith, length-format4 0 (p ∷ ps), length-lone (p ∷ ps) h 0)))
+lone-too-long (p ∷ ps) h n = rw (lt-leb (lengthOf4 (countOf (p ∷ ps))) 65535 (omega (arith, length-format4 0 (p ∷ ps), length-lone (p ∷ ps) h 0)))
 
-pub lone-fits : (ps : List Pair) → Lone ps → 1 ≤ length ps → length ps ≤ 8188 → sizeOf ps ≡ Fits (countOf ps)
-unfolding sizeOf
+pub lone-fits : (ps : List Pair) → Lone ps → 1 ≤ length ps → length ps ≤ 8188 → sizeOf4 ps ≡ Fits (countOf ps)
+unfolding sizeOf4
 lone-fits [] h m n = absurd (omega arith)
-lone-fits (p ∷ ps) h m n = rw (le-leb (lengthOf (countOf (p ∷ ps))) 65535 (omega (arith, length-format4 0 (p ∷ ps), length-lone (p ∷ ps) h 0)))
+lone-fits (p ∷ ps) h m n = rw (le-leb (lengthOf4 (countOf (p ∷ ps))) 65535 (omega (arith, length-format4 0 (p ∷ ps), length-lone (p ∷ ps) h 0)))
 
 -- ---- such points
 
@@ -70,7 +70,7 @@ length-spaced : (i n : ℕ) → length (spaced i n) ≡ n
 length-spaced i zero = refl
 length-spaced i (suc n) = ap suc (length-spaced (suc i) n)
 
-point-spaced : (i : ℕ) → 2 * i < 65535 → Point (2 * i, 1)
+point-spaced : (i : ℕ) → 2 * i < 65535 → LonePoint (2 * i, 1)
 point-spaced i h = record { low = h; turns = λ e. omega arith }
 
 spaced-lone : (i n : ℕ) → 2 * (i + n) ≤ 65535 → Lone (spaced i n)
@@ -81,5 +81,5 @@ spaced-lone i (suc (suc n)) h = (point-spaced i (omega arith), ((λ e. omega ari
 pub border-fits : (language : ℕ) → length (format4 language (spaced 0 8188)) ≡ 65528
 border-fits language = lone-longest (spaced 0 8188) (spaced-lone 0 8188 (omega arith)) language (length-spaced 0 8188)
 
-pub border-too-long : sizeOf (spaced 0 8189) ≡ TooLong
+pub border-too-long : sizeOf4 (spaced 0 8189) ≡ TooLong
 border-too-long = lone-too-long (spaced 0 8189) (spaced-lone 0 8189 (omega arith)) (omega (arith, length-spaced 0 8189))

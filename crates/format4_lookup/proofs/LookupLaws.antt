@@ -23,7 +23,7 @@ use Rattle.format4_cutting.specs.declared.Segment.{Segment}
 use Rattle.format4_cutting.specs.Cutting.{nextCode, nextGlyph, rangesOf, runsOf, Cut, cutOf, present, cutRange, cuts, runDelta, firstCode, lastCode, segmentOf, lastEnd, segments, glyphs, arrayOf, glyphArray, closing, entriesOf}
 use Rattle.format4_cutting.proofs.CuttingLaws.{parts, Adjacent, linked-length, cuts-pairs, runs-each, cuts-each, cuts-adjacent}
 use Rattle.format4_lookup.proofs.FitsLaws.{Fit, cuts-fit, first-low}
-use Rattle.format4_lookup.specs.CutLookup.{valueIn, lookupIn, unlisted, Fits, Listed}
+use Rattle.format4_lookup.specs.CutLookup.{valueIn, lookupIn, unlisted, Fits16, Listed16}
 
 abbrev codes : List Pair → List ℕ
 codes ps = map (λ (p : Pair). p .0) ps
@@ -35,7 +35,7 @@ abbrev Told : Cut → Type 0
 Told x = (x .delta ≡ 0 → ⊥) → (k : ℕ) → k < length (x .pairs) → (firstCode (x .pairs) + k + x .delta) % 65536 ≡ getD (glyphs (x .pairs)) k 0
 
 abbrev Run : List Pair → Type 0
-Run run = Linked nextGlyph run × Each Fits run
+Run run = Linked nextGlyph run × Each Fits16 run
 
 glyph-at : (p : Pair) (run : List Pair) (k : ℕ) → Linked nextGlyph (p ∷ run) → k < length (p ∷ run) → getD (glyphs (p ∷ run)) k 0 ≡ p .1 + k
 glyph-at p run zero h l = omega arith
@@ -45,7 +45,7 @@ glyph-at p (q ∷ run) (suc k) h l =
     let f = eqb-true (q .1) (p .1 + 1) (h .0) in
     omega arith
 
-glyph-fits : (ps : List Pair) (k : ℕ) → Each Fits ps → k < length ps → getD (glyphs ps) k 0 < 65536
+glyph-fits : (ps : List Pair) (k : ℕ) → Each Fits16 ps → k < length ps → getD (glyphs ps) k 0 < 65536
 glyph-fits [] k h l = absurd (omega arith)
 glyph-fits (p ∷ ps) zero h l = h .0 .1
 glyph-fits (p ∷ ps) (suc k) h l = glyph-fits ps k (h .1) (omega arith)
@@ -64,13 +64,13 @@ runs-told [] e h n = absurd (false-true e)
 runs-told (run ∷ []) e h n = rw (append-nil run) (run-told run (h .0))
 runs-told (run ∷ next ∷ runs) e h n = absurd (n refl)
 
-range-told : (range : List Pair) → Each Fits range → Each Told (cutRange range)
+range-told : (range : List Pair) → Each Fits16 range → Each Told (cutRange range)
 range-told range h =
     runs-each Run Told runs-told 8 [] (runsOf range) tt
-    (each-both (Linked nextGlyph) (Each Fits) (runsOf range) (pieces-linked nextGlyph range) (each-pieces Fits nextGlyph range h))
+    (each-both (Linked nextGlyph) (Each Fits16) (runsOf range) (pieces-linked nextGlyph range) (each-pieces Fits16 nextGlyph range h))
 
-cuts-told : (ps : List Pair) → Each Fits ps → Each Told (cuts ps)
-cuts-told ps h = cuts-each Told ps (each-of (Each Fits) (λ (range : List Pair). Each Told (cutRange range)) range-told (rangesOf ps) (each-pieces Fits nextCode ps h))
+cuts-told : (ps : List Pair) → Each Fits16 ps → Each Told (cuts ps)
+cuts-told ps h = cuts-each Told ps (each-of (Each Fits16) (λ (range : List Pair). Each Told (cutRange range)) range-told (rangesOf ps) (each-pieces Fits16 nextCode ps h))
 
 -- ---- the glyph of a code point among the pairs
 
@@ -169,7 +169,7 @@ module _ {A : Type 0} (none : A) (glyph : ℕ → A) (c : ℕ) (small : c < 6553
       (cuts-find cs t (λ k. reach-next (segmentOf x) (map segmentOf cs) (z k) l) (climbs-right (codes ps) (codes rest) (rw (map-append (λ (p : Pair). p .0) ps rest) at r)) (a .1) (d .1) (f .1)))
 
   -- the key fact: a code point is found with its listed glyph; none is found where none is listed, but at 0xFFFF glyph 0
-  pub segments-find : (ps : List Pair) → Listed ps → lookupIn none glyph (glyphArray ps) (segments ps) c ≡ listedAs (unlisted none glyph c) glyph ps c
+  pub segments-find : (ps : List Pair) → Listed16 ps → lookupIn none glyph (glyphArray ps) (segments ps) c ≡ listedAs (unlisted none glyph c) glyph ps c
   unfolding glyphArray segments
   segments-find ps l =
       let r = rising-climbs (codes ps) (l .rising) in

@@ -1,4 +1,4 @@
--- Looking a code point up in segments and their glyph array (docs/01-rules.md, "Heads"), and what is asked of the pairs they were cut from.
+-- Inner: for laws alone, looking a code point up in segments and their glyph array (docs/RULES.md, "Heads"), and what is asked of the pairs they were cut from.
 -- What is found is told by `none`, nothing there, and `glyph`, a glyph there, which may be 0.
 use Prim.Native.Nat.{ℕ, _+_, _-_, _%_, _<_}
 use mathlib.Core.List.{List, [], _∷_, map}
@@ -27,10 +27,10 @@ abbrev pub unlisted : {A : Type 0} → A → (ℕ → A) → ℕ → A
 unlisted none glyph c = pick (eqb c 65535) (glyph 0) none
 
 -- code points and glyphs of 16 bits
-abbrev pub Fits : Pair → Type 0
-Fits p = (p .0 < 65536) × (p .1 < 65536)
+abbrev pub Fits16 : Pair → Type 0
+Fits16 p = (p .0 < 65536) × (p .1 < 65536)
 
 -- pairs that a format 4 table can hold, the code points rising
-pub record Listed (ps : List Pair) : Type 0 where
+pub record Listed16 (ps : List Pair) : Type 0 where
   pub rising : Rising (map (λ (p : Pair). p .0) ps)
-  pub fits : Each Fits ps
+  pub fits : Each Fits16 ps

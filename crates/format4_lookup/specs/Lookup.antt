@@ -1,4 +1,4 @@
--- What a lookup finds in a format 4 subtable of listed pairs (docs/01-rules.md, "Heads"), and when such a subtable is written.
+-- Inner: for laws alone, what a lookup finds in a format 4 subtable of listed pairs (docs/RULES.md, "Heads"), and when such a subtable is written.
 use Prim.Native.Nat.{ℕ, _≤_, _<_}
 use mathlib.Core.List.{List}
 use lib.ListN.{length}
@@ -10,7 +10,7 @@ use Rattle.format4.specs.Format4.{format4}
 use Rattle.format4_lookup.specs.CutLookup.{unlisted}
 
 -- its length and its language fit their fields
-pub record Written (language : ℕ) (ps : List Pair) : Type 0 where
+pub record FieldsFit (language : ℕ) (ps : List Pair) : Type 0 where
   pub short : length (format4 language ps) ≤ 65535
   pub language-fits : language < 65536
 

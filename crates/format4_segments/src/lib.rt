@@ -1,5 +1,5 @@
 // What each segment of a format 4 subtable says of a code point, and how many segments are walked.
-use format4_mapped::Segment;
+use format4_mapped::SourceSegment;
 use source::Segments;
 ghost use mathlib.Core.Path.{_≡_};
 ghost use Prim.Native.Nat.{_≤_, _<_};
@@ -8,7 +8,7 @@ ghost use Rattle.lists_marks.specs.Marks.{Inside};
 ghost use Rattle.source.specs.Room.{Room4};
 ghost use Rattle.format4_mapped.specs.Mapped4.{Read4, entry4, says4, stops4};
 
-pub fn segment_at(s: &[u8], t: Segments, i: usize) -> Segment
+pub fn segment_at(s: &[u8], t: Segments, i: usize) -> SourceSegment
     requires { ⌜ Room4 (now s) t ⌝ }
     requires { ⌜ i < t .segs ⌝ }
     ensures { λ r. ⌜ Read4 (now (s .entry)) (t .at) (t .segs) i r ⌝ }
@@ -17,7 +17,7 @@ pub fn segment_at(s: &[u8], t: Segments, i: usize) -> Segment
     let end = number::u16_at(s, t.at + 14 + 2 * i);
     let delta = number::u16_at(s, t.at + 16 + 4 * t.segs + 2 * i);
     let offset = number::u16_at(s, t.at + 16 + 6 * t.segs + 2 * i);
-    Segment {
+    SourceSegment {
         start,
         end,
         delta,
@@ -41,7 +41,7 @@ fn entry(s: &[u8], t: Segments, place: usize, away: usize) -> u32
 }
 
 // What segment i says of a code point that it holds.
-pub fn segment_maps(s: &[u8], t: Segments, i: usize, segment: Segment, c: u32) -> bool
+pub fn segment_maps(s: &[u8], t: Segments, i: usize, segment: SourceSegment, c: u32) -> bool
     requires { ⌜ Room4 (now s) t ⌝ }
     requires { ⌜ Read4 (now s) (t .at) (t .segs) i segment ⌝ }
     requires { ⌜ i < t .segs ⌝ }
@@ -64,7 +64,7 @@ pub fn walk_end(s: &[u8], t: Segments) -> usize
     let mut i = 0;
     while i < t.segs {
         let segment = segment_at(s, t, i);
-        if segment.start == Segment::WALK_END {
+        if segment.start == SourceSegment::WALK_END {
             return i;
         }
         i += 1;

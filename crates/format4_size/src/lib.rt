@@ -1,16 +1,16 @@
 // How many segments and glyphs a format 4 subtable has, and whether its length fits.
 use format4::RangeCounter;
-use format4::Size;
+use format4::Size4;
 use format4_cutting::RangeState;
 ghost use mathlib.Core.Path.{_≡_};
 ghost use Rattle.laws.specs.Lists.{pairs};
-ghost use Rattle.format4.specs.Size.{Columns, sizeOf};
-ghost use Rattle.format4.specs.Walk.{Counts};
+ghost use Rattle.format4.specs.Size.{Columns16, sizeOf4};
+ghost use Rattle.format4.specs.Walk.{CountedPairs};
 
 // How many segments the pairs are cut into, and how many glyphs their array has.
 fn find_segcount(codes: &[u32], glyphs: &[u16]) -> RangeCounter
-    requires { ⌜ Columns (now codes) (now glyphs) ⌝ }
-    ensures { λ r. ⌜ Counts (pairs (now (codes .entry)) (now (glyphs .entry))) r ⌝ }
+    requires { ⌜ Columns16 (now codes) (now glyphs) ⌝ }
+    ensures { λ r. ⌜ CountedPairs (pairs (now (codes .entry)) (now (glyphs .entry))) r ⌝ }
 {
     let mut state = RangeState::new();
     let mut n = RangeCounter::new();
@@ -29,16 +29,16 @@ fn find_segcount(codes: &[u32], glyphs: &[u16]) -> RangeCounter
     n.absorb(out).close(f.close)
 }
 
-pub fn format4_size(codes: &[u32], glyphs: &[u16]) -> Size
-    requires { ⌜ Columns (now codes) (now glyphs) ⌝ }
-    ensures { λ r. ⌜ r ≡ sizeOf (pairs (now (codes .entry)) (now (glyphs .entry))) ⌝ }
+pub fn format4_size(codes: &[u32], glyphs: &[u16]) -> Size4
+    requires { ⌜ Columns16 (now codes) (now glyphs) ⌝ }
+    ensures { λ r. ⌜ r ≡ sizeOf4 (pairs (now (codes .entry)) (now (glyphs .entry))) ⌝ }
 {
     if codes.len() == 0 {
-        return Size::Empty;
+        return Size4::Empty;
     }
     let n = find_segcount(codes, glyphs);
     if n.length() <= number::limits::FORMAT4_LENGTH_MAX {
-        return Size::Fits(n);
+        return Size4::Fits(n);
     }
-    Size::TooLong
+    Size4::TooLong
 }

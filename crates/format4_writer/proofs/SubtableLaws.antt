@@ -13,17 +13,17 @@ use Rattle.format4_cutting.specs.Cutting.{segments, glyphArray}
 use Rattle.format4_cutting.proofs.CuttingLaws.{array-from, length-array}
 use Rattle.format4.specs.Format4.{format4}
 use Rattle.format4.specs.Walk.{Fed}
-use Rattle.format4.specs.Size.{Columns, lengthOf}
+use Rattle.format4.specs.Size.{Columns16, lengthOf4}
 use Rattle.format4.proofs.CutLaws.{segments-fed}
 use Rattle.format4.proofs.CountLaws.{Told}
-use Rattle.format4_columns.specs.Places.{Room, Apart, columnsAt, placesAt, headed}
+use Rattle.format4_columns.specs.Places.{SegmentsRoom, Apart, columnsAt, placesAt, headed}
 use Rattle.format4_columns.proofs.PlacesLaws.{apart-at, whole-subtable}
 
-module _ (cs gs : List ℕ) (n : RangeCounter) (k : Columns cs gs) (t : Told (pairs cs gs) n) (at : ℕ) where
+module _ (cs gs : List ℕ) (n : RangeCounter) (k : Columns16 cs gs) (t : Told (pairs cs gs) n) (at : ℕ) where
   pub told-apart : Apart (placesAt at (n .segments)) (length (segments (pairs cs gs))) 0
   told-apart = rw (t .is) (apart-at at (length (segments (pairs cs gs))))
 
-  pub told-room : (l : ℕ) → at + lengthOf n ≤ l → Room (placesAt at (n .segments)) (segments (pairs cs gs)) (length gs) l
+  pub told-room : (l : ℕ) → at + lengthOf4 n ≤ l → SegmentsRoom (placesAt at (n .segments)) (segments (pairs cs gs)) (length gs) l
   told-room l h =
       let s : n .segments ≡ length (segments (pairs cs gs)) = ap (λ (m : RangeCounter). m .segments) (t .is) in
       let g : n .glyphs ≡ entries (segments (pairs cs gs)) = ap (λ (m : RangeCounter). m .glyphs) (t .is) ∙ length-array (pairs cs gs) in

@@ -9,11 +9,11 @@ ghost use lib.ListN.{length};
 ghost use lib.Seq.{sets};
 ghost use Rattle.laws.specs.Lists.{pairs};
 ghost use Rattle.number.specs.Row.{encs};
-ghost use Rattle.format4.specs.declared.Size.the-variants.{Fits};
+ghost use Rattle.format4.specs.declared.Size4.the-variants.{Fits};
 ghost use Rattle.format4_cutting.specs.Cutting.{segments};
 ghost use Rattle.format4.specs.Format4.{floorLog2, format4};
-ghost use Rattle.format4.specs.Size.{Columns, lengthOf, sizeOf};
-ghost use Rattle.format4_columns.specs.Places.{Room, columnsAt, Apart, headed, Space};
+ghost use Rattle.format4.specs.Size.{Columns16, lengthOf4, sizeOf4};
+ghost use Rattle.format4_columns.specs.Places.{SegmentsRoom, columnsAt, Apart, headed, Space};
 ghost use Rattle.format4_writer.specs.Log.{Logs};
 
 struct Log {
@@ -75,9 +75,9 @@ fn put_header(out: &mut [u8], at: usize, language: u32, s: usize, g: usize)
 
 // The columns and the glyph array.
 fn write_columns(out: &mut [u8], codes: &[u32], glyphs: &[u16], at: RangeWriter)
-    requires { ⌜ Columns (now codes) (now glyphs) ⌝ }
+    requires { ⌜ Columns16 (now codes) (now glyphs) ⌝ }
     requires { ⌜ Apart at (length (segments (pairs (now codes) (now glyphs)))) 0 ⌝ }
-    requires { ⌜ Room at (segments (pairs (now codes) (now glyphs))) (length (now glyphs)) (length (now out)) ⌝ }
+    requires { ⌜ SegmentsRoom at (segments (pairs (now codes) (now glyphs))) (length (now glyphs)) (length (now out)) ⌝ }
     ensures { λ _. ⌜ now (out .exit) ≡ columnsAt (now (glyphs .entry)) (now (out .entry)) at 0 (segments (pairs (now (codes .entry)) (now (glyphs .entry)))) ⌝ }
 {
     let mut state = RangeState::new();
@@ -107,9 +107,9 @@ pub fn write_format4(
     glyphs: &[u16],
     n: RangeCounter,
 )
-    requires { ⌜ Columns (now codes) (now glyphs) ⌝ }
-    requires { ⌜ sizeOf (pairs (now codes) (now glyphs)) ≡ Fits n ⌝ }
-    requires { ⌜ at + lengthOf n ≤ length (now out) ⌝ }
+    requires { ⌜ Columns16 (now codes) (now glyphs) ⌝ }
+    requires { ⌜ sizeOf4 (pairs (now codes) (now glyphs)) ≡ Fits n ⌝ }
+    requires { ⌜ at + lengthOf4 n ≤ length (now out) ⌝ }
     ensures { λ _. ⌜ now (out .exit) ≡ sets (now (out .entry)) at (format4 language (pairs (now (codes .entry)) (now (glyphs .entry)))) ⌝ }
 {
     put_header(out, at, language, n.segments, n.glyphs);

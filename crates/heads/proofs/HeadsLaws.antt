@@ -16,14 +16,14 @@ use Rattle.source_header.specs.Header.{refused5, recordCount, headerOf, offsetO
 use Rattle.source_header.proofs.HeaderLaws.{Accepted, not-refused, tells-records, tells-refused}
 use Rattle.source_records.specs.Records.{leadsToFormat}
 use Rattle.heads_lookup.specs.Lookup.{lookup4, lookup12, glyphOf}
-use Rattle.heads.specs.declared.Answer.{Answer}
-use Rattle.heads.specs.declared.Answer.the-variants.{Glyph, Refused}
-use Rattle.heads.specs.Heads.{oldOf, newOf, byRecords, oldHead, newHead, numberOf}
+use Rattle.heads.specs.declared.Printed.{Printed}
+use Rattle.heads.specs.declared.Printed.the-variants.{Glyph, Refused}
+use Rattle.heads.specs.Heads.{oldOf, newOf, byRecords, oldHead, newHead, headNumberOf}
 
 -- ---- by the header
 
 module _ (xs : List ℕ) where
-  pub by-accepted : {n : ℕ} (answer : ℕ → Answer) → Accepted xs n → byRecords xs answer ≡ answer n
+  pub by-accepted : {n : ℕ} (answer : ℕ → Printed) → Accepted xs n → byRecords xs answer ≡ answer n
   unfolding byRecords
   by-accepted answer a = rw (not-refused xs a, ← a .count)
 
@@ -31,10 +31,10 @@ module _ (xs : List ℕ) where
     pub records-fit : (n : ℕ) → h ≡ headerOf xs → h ≡ Records n → 4 + 8 * n ≤ length xs
     records-fit n q e = tells-records xs (sym q ∙ e) .fits
 
-    pub head-accepted : (answer : ℕ → Answer) (n : ℕ) (r : Answer) → h ≡ headerOf xs → h ≡ Records n → r ≡ answer n → r ≡ byRecords xs answer
+    pub head-accepted : (answer : ℕ → Printed) (n : ℕ) (r : Printed) → h ≡ headerOf xs → h ≡ Records n → r ≡ answer n → r ≡ byRecords xs answer
     head-accepted answer n r q e f = f ∙ sym (by-accepted answer (tells-records xs (sym q ∙ e)))
 
-    pub head-refused : (answer : ℕ → Answer) → h ≡ headerOf xs → h ≡ Rejected → Refused 5 ≡ byRecords xs answer
+    pub head-refused : (answer : ℕ → Printed) → h ≡ headerOf xs → h ≡ Rejected → Refused 5 ≡ byRecords xs answer
     unfolding byRecords
     head-refused answer q e = rw (tells-refused xs (sym q ∙ e))
 
@@ -71,10 +71,10 @@ module _ (xs : List ℕ) (n : ℕ) (a : Accepted xs n) (c : ℕ) where
 
 -- ---- a head's number is 0, 5 or 11
 
-pub record Told (r : Answer) : Type 0 where
-  pub number : (numberOf r ≡ 0) ⊎ ((numberOf r ≡ 5) ⊎ (numberOf r ≡ 11))
+pub record Told (r : Printed) : Type 0 where
+  pub number : (headNumberOf r ≡ 0) ⊎ ((headNumberOf r ≡ 5) ⊎ (headNumberOf r ≡ 11))
 
-told-if : (a b : ℕ) (x y : Answer) → Told x → Told y → Told (ifLt a b x y)
+told-if : (a b : ℕ) (x y : Printed) → Told x → Told y → Told (ifLt a b x y)
 unfolding ifLt
 told-if a b x y p q = by-pick Told (ltb a b) x y (λ e. p) (λ e. q)
 
@@ -87,7 +87,7 @@ module _ (xs : List ℕ) (c : ℕ) where
   unfolding newOf
   new-told n = told-if _ _ _ _ (record { number = inl refl }) (old-told n)
 
-  told-by : (answer : ℕ → Answer) → ((n : ℕ) → Told (answer n)) → Told (byRecords xs answer)
+  told-by : (answer : ℕ → Printed) → ((n : ℕ) → Told (answer n)) → Told (byRecords xs answer)
   unfolding byRecords
   told-by answer f =
       by-pick Told (refused5 xs) (Refused 5) (answer (recordCount xs)) (λ e. record { number = inr (inl refl) }) (λ e. f (recordCount xs))

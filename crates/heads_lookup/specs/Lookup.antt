@@ -1,4 +1,4 @@
--- What glyph a subtable gives for a code point (docs/01-rules.md, "Heads"). That nothing is there is kept apart from glyph 0.
+-- What glyph a subtable gives for a code point (docs/RULES.md, "Heads"). That nothing is there is kept apart from glyph 0.
 use Prim.Native.Nat.{ℕ, _+_, _-_, _/_, _%_}
 use mathlib.Core.List.{List}
 use mathlib.Core.Bool.{Bool}

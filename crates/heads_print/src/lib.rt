@@ -1,5 +1,5 @@
 // The two print heads: which glyph each prints for a code point, from a table of any length.
-use heads::Answer;
+use heads::Printed;
 ghost use mathlib.Core.Path.{_≡_};
 ghost use Prim.Native.Nat.{_+_, _*_, _≤_};
 ghost use lib.ListN.{length};
@@ -22,28 +22,28 @@ fn first_record(s: &[u8], format: u32, n: usize) -> usize
     i
 }
 
-fn old_of(s: &[u8], c: u32, n: usize) -> Answer
+fn old_of(s: &[u8], c: u32, n: usize) -> Printed
     requires { ⌜ 4 + 8 * n ≤ length (now s) ⌝ }
     ensures { λ r. ⌜ r ≡ oldOf (now (s .entry)) c n ⌝ }
 {
     let k = first_record(s, 4, n);
     if k < n {
-        return Answer::Glyph(heads_lookup::glyph_of(heads_lookup_at::lookup4(
+        return Printed::Glyph(heads_lookup::glyph_of(heads_lookup_at::lookup4(
             s,
             source_header::offset_of(s, k),
             c,
         )));
     }
-    Answer::Refused(11)
+    Printed::Refused(11)
 }
 
-fn new_of(s: &[u8], c: u32, n: usize) -> Answer
+fn new_of(s: &[u8], c: u32, n: usize) -> Printed
     requires { ⌜ 4 + 8 * n ≤ length (now s) ⌝ }
     ensures { λ r. ⌜ r ≡ newOf (now (s .entry)) c n ⌝ }
 {
     let k = first_record(s, 12, n);
     if k < n {
-        return Answer::Glyph(heads_lookup::glyph_of(heads_lookup_at::lookup12(
+        return Printed::Glyph(heads_lookup::glyph_of(heads_lookup_at::lookup12(
             s,
             source_header::offset_of(s, k),
             c,
@@ -52,20 +52,20 @@ fn new_of(s: &[u8], c: u32, n: usize) -> Answer
     old_of(s, c, n)
 }
 
-pub fn old_head(table: &[u8], c: u32) -> Answer
+pub fn old_head(table: &[u8], c: u32) -> Printed
     ensures { λ r. ⌜ r ≡ oldHead (now (table .entry)) c ⌝ }
 {
     match source_header::header_of(table) {
         source_header::Header::Records(n) => old_of(table, c, n),
-        source_header::Header::Refused => Answer::Refused(5),
+        source_header::Header::Refused => Printed::Refused(5),
     }
 }
 
-pub fn new_head(table: &[u8], c: u32) -> Answer
+pub fn new_head(table: &[u8], c: u32) -> Printed
     ensures { λ r. ⌜ r ≡ newHead (now (table .entry)) c ⌝ }
 {
     match source_header::header_of(table) {
         source_header::Header::Records(n) => new_of(table, c, n),
-        source_header::Header::Refused => Answer::Refused(5),
+        source_header::Header::Refused => Printed::Refused(5),
     }
 }

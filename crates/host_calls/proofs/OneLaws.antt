@@ -1,4 +1,4 @@
--- 1 is told exactly where a size is broken, so what is left in the work room goes by the number told (docs/01-rules.md, "What is lent").
+-- 1 is told exactly where a size is broken, so what is left in the work room goes by the number told (docs/RULES.md, "What is lent").
 use Prim.Native.Nat.{ℕ}
 use mathlib.Core.Path.{_≡_, refl, sym, ap, _∙_}
 use mathlib.Core.List.{List, [], _∷_}
@@ -12,27 +12,27 @@ use Rattle.laws.specs.Lists.{laid}
 use Rattle.laws.proofs.ChoiceLaws.{false-true}
 use Rattle.lists_checks.specs.Checks.{badSizes}
 use Rattle.plan_listing.specs.Job.{Job}
-use Rattle.result.specs.Refusal.{Case, firstOf, refusals, refusalOf}
-use Rattle.host_pairs.specs.declared.Pair.{Pair}
+use Rattle.result.specs.Refusal.{Refusal, firstOf, refusals, refusalOf}
+use Rattle.host_pairs.specs.declared.PairRecord.{PairRecord}
 use Rattle.host_pairs.specs.Pairs.{code, glyph, codesOf, glyphsOf}
 use Rattle.cmap_promise.specs.declared.Answer.the-variants.{Refused}
 use Rattle.cmap_promise.specs.declared.FateKind.the-variants.{Refused as FateRefused}
 use Rattle.cmap_promise.specs.Cmap.{numberOf, refusalsIn, numberIn, answerOf}
-use Rattle.cmap_promise.specs.Fates.{numberOf as fateNumberOf, noFate, fateOf}
+use Rattle.cmap_promise.specs.Fates.{fateNumberOf, noFate, fateOf}
 use Rattle.cmap_promise.proofs.PromiseLaws.{number-answered, fate-number}
 use Rattle.host_calls.specs.Calls.{broken, jobOf, subsetOf, recordFateOf, codesAfter, glyphsAfter}
 
 -- ---- 1 stands first among the refusals, and nowhere else
 
-abbrev others : List Case → Bool
+abbrev others : List Refusal → Bool
 others [] = true
 others (c ∷ cs) = pick (eqb (c .0) 1) false (others cs)
 
-abbrev later : List Case → List Case
+abbrev later : List Refusal → List Refusal
 later [] = []
 later (c ∷ cs) = cs
 
-not-one : (cs : List Case) → others cs ≡ true → firstOf cs ≡ 1 → ⊥
+not-one : (cs : List Refusal) → others cs ≡ true → firstOf cs ≡ 1 → ⊥
 not-one [] h e = omega (arith, e)
 not-one (c ∷ cs) h e = one-more (not-one cs) (c .1) (eqb (c .0) 1) refl h e
   where
@@ -41,7 +41,7 @@ not-one (c ∷ cs) h e = one-more (not-one cs) (c .1) (eqb (c .0) 1) refl h e
     one-more k true false q h e = eqb-false (c .0) 1 q e
     one-more k false false q h e = k h e
 
-first-one : (t : Bool) (cs : List Case) → others cs ≡ true → firstOf ((1, t) ∷ cs) ≡ 1 → t ≡ true
+first-one : (t : Bool) (cs : List Refusal) → others cs ≡ true → firstOf ((1, t) ∷ cs) ≡ 1 → t ≡ true
 first-one true cs h e = refl
 first-one false cs h e = absurd (not-one cs h e)
 
@@ -56,7 +56,7 @@ third true b c e = refl
 third false true c e = refl
 third false false c e = e
 
-module _ (source : List ℕ) (pairs : List Pair) (codes glyphs kept newGlyphs requested : List ℕ) where
+module _ (source : List ℕ) (pairs : List PairRecord) (codes glyphs kept newGlyphs requested : List ℕ) where
   abbrev j : Job
   j = jobOf source pairs codes glyphs kept newGlyphs requested
 

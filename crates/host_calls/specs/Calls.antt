@@ -1,4 +1,4 @@
--- The calls over the list of pair records (docs/01-rules.md, "What is lent").
+-- The calls over the list of pair records (docs/RULES.md, "What is lent").
 use Prim.Native.Nat.{ℕ}
 use mathlib.Core.List.{List}
 use mathlib.Core.Bool.{Bool}
@@ -6,7 +6,7 @@ use lib.ListN.{length}
 use Rattle.laws.specs.Choice.{pick}
 use Rattle.host_pairs.specs.Sizes.{sizesBroken}
 use Rattle.plan_listing.specs.Job.{Job, job}
-use Rattle.host_pairs.specs.declared.Pair.{Pair}
+use Rattle.host_pairs.specs.declared.PairRecord.{PairRecord}
 use Rattle.host_pairs.specs.Pairs.{codesOf, glyphsOf}
 use Rattle.cmap_promise.specs.declared.Answer.{Answer}
 use Rattle.cmap_promise.specs.declared.Answer.the-variants.{Refused}
@@ -16,7 +16,7 @@ use Rattle.laws.specs.Lists.{laid}
 use Rattle.cmap_promise.specs.Cmap.{answerOf, outputOf}
 use Rattle.cmap_promise.specs.Fates.{fateOf, noFate}
 
-module _ (source : List ℕ) (pairs : List Pair) (codes glyphs kept newGlyphs requested : List ℕ) where
+module _ (source : List ℕ) (pairs : List PairRecord) (codes glyphs kept newGlyphs requested : List ℕ) where
   -- 1
   abbrev pub broken : Bool
   broken = sizesBroken (length source) (length pairs) (length codes) (length glyphs) (length kept) (length newGlyphs) (length requested)

@@ -1,4 +1,4 @@
--- Refusal 1 of a call over pair records, asked of the lengths alone (docs/01-rules.md, "What is lent").
+-- Refusal 1 of a call over pair records, asked of the lengths alone (docs/RULES.md, "What is lent").
 use Prim.Native.Nat.{ℕ}
 use mathlib.Core.Bool.{Bool}
 use lib.Dec.{ltb}

@@ -8,13 +8,13 @@ ghost use Rattle.host_pairs.specs.Sizes.{sizesBroken};
 
 // A listed code point and its new glyph.
 #[repr(C)]
-pub struct Pair {
+pub struct PairRecord {
     pub code: u32,
     pub glyph: u16,
 }
 
 // The proof is by hand: a function that holds a slice of structs is not covered.
-pub fn copy_pairs(pairs: &[Pair], codes: &mut [u32], glyphs: &mut [u16])
+pub fn copy_pairs(pairs: &[PairRecord], codes: &mut [u32], glyphs: &mut [u16])
     requires { ⌜ (length (now pairs) ≤ length (now codes)) × (length (now pairs) ≤ length (now glyphs)) ⌝ }
     ensures { λ _. ⌜ (now (codes .exit) ≡ laid (codesOf (now (pairs .entry))) (now (codes .entry)))
         × (now (glyphs .exit) ≡ laid (glyphsOf (now (pairs .entry))) (now (glyphs .entry))) ⌝ }

@@ -4,9 +4,9 @@ use mathlib.Core.Path.{_≡_, ap, _∙_}
 use Rattle.cmap_promise.specs.declared.Answer.{Answer}
 use Rattle.cmap_promise.specs.declared.Fate.{Fate}
 use Rattle.cmap_promise.specs.Cmap.{numberOf, lengthOf, recordsOf}
-use Rattle.cmap_promise.specs.Fates.{numberOf as fateNumberOf}
-use Rattle.heads.specs.declared.Answer.{Answer as Printed}
-use Rattle.heads.specs.Heads.{numberOf as headNumberOf, printedOf}
+use Rattle.cmap_promise.specs.Fates.{fateNumberOf}
+use Rattle.heads.specs.declared.Printed.{Printed}
+use Rattle.heads.specs.Heads.{headNumberOf, printedOf}
 use Rattle.host_told.specs.declared.SubsetAnswer.{SubsetAnswer}
 use Rattle.host_told.specs.declared.FateAnswer.{FateAnswer}
 use Rattle.host_told.specs.declared.HeadAnswer.{HeadAnswer}

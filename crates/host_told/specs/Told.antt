@@ -1,13 +1,13 @@
--- Answers as a host gets them: each enum told in numbers (docs/01-rules.md, "Numbers of refusal" and "Records").
+-- Answers as a host gets them: each enum told in numbers (docs/RULES.md, "Numbers of refusal" and "Records").
 use Prim.Native.Nat.{ℕ}
 use Rattle.cmap_promise.specs.declared.Answer.{Answer}
 use Rattle.cmap_promise.specs.declared.Fate.{Fate}
 use Rattle.cmap_promise.specs.declared.FateKind.{FateKind}
 use Rattle.cmap_promise.specs.declared.FateKind.the-variants.{NotRetained, Skipped, Empty, TooLong, Covered, WrittenAt, Refused, NoSuchRecord}
 use Rattle.cmap_promise.specs.Cmap.{numberOf, lengthOf, recordsOf}
-use Rattle.cmap_promise.specs.Fates.{numberOf as fateNumberOf}
-use Rattle.heads.specs.declared.Answer.{Answer as Printed}
-use Rattle.heads.specs.Heads.{numberOf as headNumberOf, printedOf}
+use Rattle.cmap_promise.specs.Fates.{fateNumberOf}
+use Rattle.heads.specs.declared.Printed.{Printed}
+use Rattle.heads.specs.Heads.{headNumberOf, printedOf}
 use Rattle.host_told.specs.declared.SubsetAnswer.{SubsetAnswer}
 use Rattle.host_told.specs.declared.FateAnswer.{FateAnswer}
 use Rattle.host_told.specs.declared.HeadAnswer.{HeadAnswer}

@@ -4,9 +4,9 @@ use cmap_promise::Fate;
 use cmap_promise::FateKind;
 ghost use mathlib.Core.Path.{_≡_};
 ghost use Rattle.cmap_promise.specs.Cmap.{numberOf, lengthOf, recordsOf};
-ghost use Rattle.cmap_promise.specs.Fates.{numberOf as fateNumberOf};
+ghost use Rattle.cmap_promise.specs.Fates.{fateNumberOf};
 ghost use Rattle.host_told.specs.Told.{told, kindNumber, writtenAt, toldFate, toldHead};
-ghost use Rattle.heads.specs.Heads.{oldHead, newHead, numberOf as headNumberOf, printedOf};
+ghost use Rattle.heads.specs.Heads.{oldHead, newHead, headNumberOf, printedOf};
 
 // Number 0 is an acceptance; length and records are those written. 10 comes with the length needed.
 #[repr(C)]
@@ -33,7 +33,7 @@ pub struct HeadAnswer {
     pub glyph: u32,
 }
 
-// ---- answers told in numbers: a function for each number that 01 gives of an enum's cases
+// ---- answers told in numbers: a function for each number that the rules give of an enum's cases
 
 fn number_of(answer: Answer) -> u8
     ensures { λ r. ⌜ r ≡ numberOf answer ⌝ }
@@ -136,25 +136,25 @@ pub fn tell_fate(fate: Fate) -> FateAnswer
     }
 }
 
-fn head_number_of(answer: heads::Answer) -> u8
+fn head_number_of(answer: heads::Printed) -> u8
     ensures { λ r. ⌜ r ≡ headNumberOf answer ⌝ }
 {
     match answer {
-        heads::Answer::Glyph(_) => 0,
-        heads::Answer::Refused(number) => number,
+        heads::Printed::Glyph(_) => 0,
+        heads::Printed::Refused(number) => number,
     }
 }
 
-fn printed_of(answer: heads::Answer) -> u32
+fn printed_of(answer: heads::Printed) -> u32
     ensures { λ r. ⌜ r ≡ printedOf answer ⌝ }
 {
     match answer {
-        heads::Answer::Glyph(glyph) => glyph,
-        heads::Answer::Refused(_) => 0,
+        heads::Printed::Glyph(glyph) => glyph,
+        heads::Printed::Refused(_) => 0,
     }
 }
 
-fn tell_head(answer: heads::Answer) -> HeadAnswer
+fn tell_head(answer: heads::Printed) -> HeadAnswer
     ensures { λ r. ⌜ r ≡ toldHead answer ⌝ }
 {
     HeadAnswer {

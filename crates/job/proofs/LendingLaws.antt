@@ -8,14 +8,14 @@ use Rattle.laws.proofs.TakeLaws.{take-counts}
 use Rattle.plan_listing.specs.Job.{Job, job}
 use Rattle.job_input.specs.declared.Places.{Places}
 use Rattle.job_input.specs.Job.{jobAt}
-use Rattle.job_lists.specs.Lent.{AtFront, Lent}
+use Rattle.job_lists.specs.Lent.{AtFront, ListsHeld}
 use Rattle.cmap_promise.specs.declared.Answer.{Answer}
 use Rattle.cmap_promise.specs.Cmap.{answerOf, outputOf}
 
 front-length : (n : ℕ) (buffer list : List ℕ) → AtFront n buffer list → n ≡ length (take n buffer)
 front-length n buffer list f = take-counts n buffer (f .room)
 
-module _ (xs : List ℕ) (p : Places) (cs gs ks ms rs : List ℕ) (f : Lent xs p cs gs ks ms rs) where
+module _ (xs : List ℕ) (p : Places) (cs gs ks ms rs : List ℕ) (f : ListsHeld xs p cs gs ks ms rs) where
   pub codes-length : p .pairs .count ≡ length (take (p .pairs .count) cs)
   codes-length = front-length _ _ _ (f .codes)
 

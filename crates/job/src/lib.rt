@@ -1,17 +1,17 @@
 // A job's bytes answered.
 use cmap_promise::Answer;
-use job_input::KEPT_MAX;
+use job_input::JOB_KEPT_MAX;
+use job_input::JOB_MAP_MAX;
+use job_input::JOB_PAIRS_MAX;
+use job_input::JOB_REQUESTED_MAX;
 use job_input::Located;
-use job_input::MAP_MAX;
-use job_input::PAIRS_MAX;
 use job_input::Places;
-use job_input::REQUESTED_MAX;
 use job_output::Reply;
 ghost use mathlib.Core.Path.{_≡_};
 ghost use lib.ListN.{length};
 ghost use Rattle.job_input.specs.Job.{parse, jobAt};
-ghost use Rattle.job_lists.specs.Lent.{Lent};
-ghost use Rattle.job_output.specs.Output.{written, Parts};
+ghost use Rattle.job_lists.specs.Lent.{ListsHeld};
+ghost use Rattle.job_output.specs.Output.{writtenBy, Parts};
 ghost use Rattle.cmap_promise.specs.Cmap.{answerOf, outputOf};
 ghost use Rattle.job_output.specs.Answered.{room, answered, replyTo, leftBy};
 
@@ -29,7 +29,7 @@ fn subset_at(
     requested: &[u16],
     out: &mut [u8],
 ) -> Answer
-    requires { ⌜ Lent (now bytes) places (now codes) (now glyphs) (now kept) (now map) (now requested) ⌝ }
+    requires { ⌜ ListsHeld (now bytes) places (now codes) (now glyphs) (now kept) (now map) (now requested) ⌝ }
     ensures { λ r. ⌜ r ≡ answerOf (jobAt (now (bytes .entry)) places) (length (now (out .entry))) ⌝ }
     ensures { λ _. ⌜ now (out .exit) ≡ outputOf (jobAt (now (bytes .entry)) places) (now (out .entry)) ⌝ }
 {
@@ -59,14 +59,14 @@ fn subset_at(
 fn subset_from(
     bytes: &[u8],
     places: Places,
-    codes: &[u32; PAIRS_MAX],
-    glyphs: &[u16; PAIRS_MAX],
-    kept: &[u32; KEPT_MAX],
-    map: &[u16; MAP_MAX],
-    requested: &[u16; REQUESTED_MAX],
+    codes: &[u32; JOB_PAIRS_MAX],
+    glyphs: &[u16; JOB_PAIRS_MAX],
+    kept: &[u32; JOB_KEPT_MAX],
+    map: &[u16; JOB_MAP_MAX],
+    requested: &[u16; JOB_REQUESTED_MAX],
     out: &mut [u8; 32768],
 ) -> Answer
-    requires { ⌜ Lent (now bytes) places (now codes) (now glyphs) (now kept) (now map) (now requested) ⌝ }
+    requires { ⌜ ListsHeld (now bytes) places (now codes) (now glyphs) (now kept) (now map) (now requested) ⌝ }
     ensures { λ r. ⌜ r ≡ answerOf (jobAt (now (bytes .entry)) places) (length (now (out .entry))) ⌝ }
     ensures { λ _. ⌜ length (now (out .entry)) ≡ room ⌝ }
     ensures { λ _. ⌜ now (out .exit) ≡ outputOf (jobAt (now (bytes .entry)) places) (now (out .entry)) ⌝ }
@@ -78,14 +78,14 @@ fn subset_from(
 pub fn answer(bytes: &[u8], out: &mut [u8; 32768]) -> Reply
     ensures { λ r. ⌜ r ≡ replyTo (parse (now (bytes .entry))) ⌝ }
     ensures { λ _. ⌜ now (out .exit) ≡ leftBy (parse (now (bytes .entry))) (now (out .entry)) ⌝ }
-    ensures { λ r. ⌜ written r (now (out .exit)) ≡ answered (parse (now (bytes .entry))) ⌝ }
+    ensures { λ r. ⌜ writtenBy r (now (out .exit)) ≡ answered (parse (now (bytes .entry))) ⌝ }
     ensures { λ r. ⌜ Parts r (now (out .exit)) ⌝ }
 {
-    let mut codes = [0u32; PAIRS_MAX];
-    let mut glyphs = [0u16; PAIRS_MAX];
-    let mut kept = [0u32; KEPT_MAX];
-    let mut map = [0u16; MAP_MAX];
-    let mut requested = [0u16; REQUESTED_MAX];
+    let mut codes = [0u32; JOB_PAIRS_MAX];
+    let mut glyphs = [0u16; JOB_PAIRS_MAX];
+    let mut kept = [0u32; JOB_KEPT_MAX];
+    let mut map = [0u16; JOB_MAP_MAX];
+    let mut requested = [0u16; JOB_REQUESTED_MAX];
     let located = job_lists::take_apart(
         bytes,
         &mut codes,

@@ -15,12 +15,12 @@ use Rattle.number.specs.Row.{encs}
 use Rattle.number.proofs.BigEndianLaws.{be-ext, be-enc-fits, length-enc}
 use Rattle.number.proofs.RowLaws.{length-encs}
 use Rattle.job_input.specs.declared.Field.{Field}
-use Rattle.job_input.specs.declared.Found.the-variants.{Whole}
+use Rattle.job_input.specs.declared.FoundField.the-variants.{Whole}
 use Rattle.job_input.specs.Column.{column}
 use Rattle.job_input.specs.declared.Places.{Places}
 use Rattle.plan_listing.specs.Job.{Job}
 use Rattle.job_input.specs.Job.{size, within, fieldAt, jobAt, parsedAt, parse, read}
-use Rattle.job_input.specs.Bytes.{framed, pairBytes, jobBytes, Fit, Sized}
+use Rattle.job_input.specs.Bytes.{framedRecord, pairBytes, jobBytes, Fit, Sized}
 use Rattle.job_input.proofs.JobLaws.{Five, whole, five-located}
 
 -- ---- parts of a list that stands
@@ -85,7 +85,7 @@ length-pairBytes (c ∷ cs) (g ∷ gs) e =
 
 -- ---- records
 
-length-framed : (m : ℕ) (payload : List ℕ) → length (framed m payload) ≡ 6 + length payload
+length-framed : (m : ℕ) (payload : List ℕ) → length (framedRecord m payload) ≡ 6 + length payload
 length-framed m payload =
     rw (length-append (enc 2 m) (enc 4 (length payload) ++ payload), length-append (enc 4 (length payload)) payload, length-enc 2 m, length-enc 4 (length payload)) (omega arith)
 
@@ -98,11 +98,11 @@ abbrev fieldIn : ℕ → List ℕ → ℕ → Field
 fieldIn width payload at = record { at = at + 6; count = length payload / width; end = at + 6 + length payload }
 
 module _ {xs : List ℕ} {at : ℕ} (m : ℕ) (payload : List ℕ) where
-  payload-stands : Stands xs at (framed m payload) → Stands xs (at + 6) payload
+  payload-stands : Stands xs at (framedRecord m payload) → Stands xs (at + 6) payload
   payload-stands s = rw (add-assoc at 2 4) at (behind 4 (length payload) payload (behind 2 m (enc 4 (length payload) ++ payload) s))
 
   framed-field : (width most : ℕ) → m < 65536 → length payload < 256 ^ 4 → length payload % width ≡ 0 → length payload / width ≤ most
-      → Stands xs at (framed m payload) → fieldAt m width most xs at ≡ Whole (fieldIn width payload at)
+      → Stands xs at (framedRecord m payload) → fieldAt m width most xs at ≡ Whole (fieldIn width payload at)
   framed-field width most hm hn a b s =
       let t = behind 2 m (enc 4 (length payload) ++ payload) s in
       let q : size xs at ≡ length payload = number 4 (length payload) payload t hn in
@@ -115,8 +115,8 @@ module _ {xs : List ℕ} {at : ℕ} (m : ℕ) (payload : List ℕ) where
         entries = rw q (within-of width most (length payload) a b);
       })))
 
-  next-stands : (rest : List ℕ) → Stands xs at (framed m payload ++ rest) → Stands xs (at + 6 + length payload) rest
-  next-stands rest s = rw (length-framed m payload, ← add-assoc at 6 (length payload)) at (right (framed m payload) rest s)
+  next-stands : (rest : List ℕ) → Stands xs at (framedRecord m payload ++ rest) → Stands xs (at + 6 + length payload) rest
+  next-stands rest s = rw (length-framed m payload, ← add-assoc at 6 (length payload)) at (right (framedRecord m payload) rest s)
 
 stands-take : (xs : List ℕ) (at : ℕ) (t : List ℕ) → Stands xs at t → take (length t) (drop at xs) ≡ t
 stands-take xs at [] s = refl
@@ -132,7 +132,7 @@ pub record Back (m width most : ℕ) (xs : List ℕ) (at : ℕ) (payload : List 
   pub is : back ≡ list
 
 framed-list : {xs : List ℕ} {at : ℕ} (m w most : ℕ) (vs : List ℕ) → m < 65536 → 0 < w → length vs ≤ most → w * length vs < 256 ^ 4
-    → Stands xs at (framed m (encs w vs)) → Fit w vs → Back m w most xs at (encs w vs) vs (column w w xs (at + 6) (length (encs w vs) / w))
+    → Stands xs at (framedRecord m (encs w vs)) → Fit w vs → Back m w most xs at (encs w vs) vs (column w w xs (at + 6) (length (encs w vs) / w))
 framed-list {xs} {at} m w most vs hm hw few room s f =
     let l = length-encs w vs in
     let n : length (encs w vs) / w ≡ length vs = rw l (mul-div-right (length vs) hw) in
@@ -160,19 +160,19 @@ module _ (j : Job) (z : Sized j) where
 
   -- each record, and what stands behind it
   abbrev tb : List ℕ
-  tb = framed 0x5442 (j .source)
+  tb = framedRecord 0x5442 (j .source)
 
   abbrev pr : List ℕ
-  pr = framed 0x5052 pairsIn
+  pr = framedRecord 0x5052 pairsIn
 
   abbrev kp : List ℕ
-  kp = framed 0x4B50 (encs 4 (j .kept))
+  kp = framedRecord 0x4B50 (encs 4 (j .kept))
 
   abbrev mp : List ℕ
-  mp = framed 0x4D50 (encs 2 (j .newGlyphs))
+  mp = framedRecord 0x4D50 (encs 2 (j .newGlyphs))
 
   abbrev rq : List ℕ
-  rq = framed 0x5251 (encs 2 (j .requested))
+  rq = framedRecord 0x5251 (encs 2 (j .requested))
 
   at-source : Stands bytes 0 bytes
   at-source = record { inside = omega arith; same = λ k h. ap (λ i. getD bytes i 0) (omega arith) }

@@ -15,13 +15,13 @@ use Rattle.laws.proofs.ChoiceLaws.{both-left, both-right, not-true, false-true,
 use Rattle.laws.proofs.TakeLaws.{take-counts}
 use Rattle.number.specs.BigEndian.{Num}
 use Rattle.job_input.specs.declared.Field.{Field}
-use Rattle.job_input.specs.declared.Found.{Found}
-use Rattle.job_input.specs.declared.Found.the-variants.{Whole, Broken}
+use Rattle.job_input.specs.declared.FoundField.{FoundField}
+use Rattle.job_input.specs.declared.FoundField.the-variants.{Whole, Broken}
 use Rattle.job_input.specs.declared.Places.{Places}
 use Rattle.job_input.specs.declared.Located.{Located}
 use Rattle.job_input.specs.declared.Located.the-variants.{At, Damaged}
-use Rattle.job_input.specs.Job.{mark, size, within, stands, fieldOf, fieldAt, after, locatedLists, located, jobAt, parse, jobOf}
-use Rattle.job_input.specs.Room.{Payload, Placed}
+use Rattle.job_input.specs.Job.{mark, size, within, stands, fieldOf, fieldAt, after, locatedLists, located, jobAt, parse, parsedJob}
+use Rattle.job_input.specs.Room.{Payload, Payloads}
 
 -- ---- one record
 
@@ -67,7 +67,7 @@ module _ (m width most : ℕ) (xs : List ℕ) (at : ℕ) where
 
 -- ---- one record after the other
 
-module _ (found r : Found) (rest : Field → Located) (q : r ≡ found) where
+module _ (found r : FoundField) (rest : Field → Located) (q : r ≡ found) where
   pub after-broken : r ≡ Broken → Damaged ≡ after found rest
   unfolding after
   after-broken e = rw (← q, e)
@@ -80,14 +80,14 @@ pub ruleset steps = (after-broken, after-whole, if-eq, else-eq)
 
 -- ---- what a record that stands tells
 
-abbrev un-whole : Found → Field → Field
+abbrev un-whole : FoundField → Field → Field
 un-whole (Whole f) d = f
 un-whole Broken d = d
 
 whole-broken : {f : Field} → Broken ≡ Whole f → ⊥
 whole-broken e = false-true (ap go e)
   where
-    go : Found → Bool
+    go : FoundField → Bool
     go (Whole f) = true
     go Broken = false
 
@@ -133,7 +133,7 @@ module _ (m width most : ℕ) (xs : List ℕ) (at : ℕ) (f : Field) where
 
 -- ---- what five records that stand tell
 
-after-at : {P : Type 0} {p : Places} (found : Found) (rest : Field → Located) → after found rest ≡ At p → ((f : Field) → found ≡ Whole f → rest f ≡ At p → P) → P
+after-at : {P : Type 0} {p : Places} (found : FoundField) (rest : Field → Located) → after found rest ≡ At p → ((f : Field) → found ≡ Whole f → rest f ≡ At p → P) → P
 unfolding after
 after-at (Whole f) rest e go = go f refl e
 after-at Broken rest e go = absurd (at-damaged e)
@@ -167,7 +167,7 @@ module _ (xs : List ℕ) (p : Places) where
   unfolding located locatedLists after
   five-located g = rw (g .source, g .pairs, g .kept, g .map, g .requested) (sym (if-eq (p .requested .end) (length xs) (At p) Damaged (g .ends) refl))
 
-  pub placed : located xs ≡ At p → Placed xs p
+  pub placed : located xs ≡ At p → Payloads xs p
   placed e =
       let g = five e in
       record {
@@ -193,7 +193,7 @@ module _ (xs : List ℕ) (p : Places) where
       )
 
   -- the places give the lists
-  pub job-at : located xs ≡ At p → jobOf (parse xs) ≡ jobAt xs p
+  pub job-at : located xs ≡ At p → parsedJob (parse xs) ≡ jobAt xs p
   job-at e = rw e
 
 long-damaged : (xs : List ℕ) → 81950 < length xs → located xs ≡ Damaged

@@ -16,13 +16,13 @@ use Rattle.number.specs.Row.{encs}
 use Rattle.number.proofs.BigEndianLaws.{be-lt, enc-be}
 use Rattle.plan_listing.specs.Job.{Job}
 use Rattle.job_input.specs.declared.Field.{Field}
-use Rattle.job_input.specs.declared.Found.the-variants.{Whole}
+use Rattle.job_input.specs.declared.FoundField.the-variants.{Whole}
 use Rattle.job_input.specs.declared.Places.{Places}
 use Rattle.job_input.specs.declared.Located.{Located}
 use Rattle.job_input.specs.declared.Located.the-variants.{At, Damaged}
 use Rattle.job_input.specs.Column.{column}
 use Rattle.job_input.specs.Job.{Parsed, read, damaged, size, within, fieldAt, located, jobAt, parsedAt, parse}
-use Rattle.job_input.specs.Bytes.{framed, pairBytes, jobBytes, Fit, Sized}
+use Rattle.job_input.specs.Bytes.{framedRecord, pairBytes, jobBytes, Fit, Sized}
 use Rattle.job_input.proofs.JobLaws.{field-stands, field-is, field-payload, five, placed}
 use Rattle.job_input.proofs.ColumnLaws.{length-column}
 
@@ -71,7 +71,7 @@ module _ (xs : List ℕ) (b : Bytes xs) where
     few : f .count ≤ most
     few = field-payload m width most xs at f e .few
 
-    framed-rest : (payload : List ℕ) → payload ≡ take (width * f .count) (drop (f .at) xs) → drop at xs ≡ framed m payload ++ drop (f .end) xs
+    framed-rest : (payload : List ℕ) → payload ≡ take (width * f .count) (drop (f .at) xs) → drop at xs ≡ framedRecord m payload ++ drop (f .end) xs
     framed-rest payload h =
         let g = field-stands m width most xs at f e in
         let n = size xs at in
@@ -99,15 +99,15 @@ module _ (xs : List ℕ) (b : Bytes xs) where
         let n : 1 * p .source .count ≡ p .source .count = omega arith in
         let last : drop (p .requested .end) xs ≡ [] = drop-of-length-le xs {i = p .requested .end} (omega (arith, g .ends)) in
         framed-rest 0x5442 1 32768 0 (p .source) (g .source) (j .source) (rw n)
-        ∙ ap (λ (r : List ℕ). framed 0x5442 (j .source) ++ r)
+        ∙ ap (λ (r : List ℕ). framedRecord 0x5442 (j .source) ++ r)
         (framed-rest 0x5052 6 2048 (p .source .end) (p .pairs) (g .pairs) (pairBytes (j .codes) (j .glyphs)) (pairs-column (p .pairs .count) (p .pairs .at) (h .pairs .inside))
-        ∙ ap (λ (r : List ℕ). framed 0x5052 (pairBytes (j .codes) (j .glyphs)) ++ r)
+        ∙ ap (λ (r : List ℕ). framedRecord 0x5052 (pairBytes (j .codes) (j .glyphs)) ++ r)
         (framed-rest 0x4B50 4 4096 (p .pairs .end) (p .kept) (g .kept) (encs 4 (j .kept)) (encs-column 4 (p .kept .count) (p .kept .at) (h .kept .inside))
-        ∙ ap (λ (r : List ℕ). framed 0x4B50 (encs 4 (j .kept)) ++ r)
+        ∙ ap (λ (r : List ℕ). framedRecord 0x4B50 (encs 4 (j .kept)) ++ r)
         (framed-rest 0x4D50 2 8192 (p .kept .end) (p .map) (g .map) (encs 2 (j .newGlyphs)) (encs-column 2 (p .map .count) (p .map .at) (h .map .inside))
-        ∙ ap (λ (r : List ℕ). framed 0x4D50 (encs 2 (j .newGlyphs)) ++ r)
+        ∙ ap (λ (r : List ℕ). framedRecord 0x4D50 (encs 2 (j .newGlyphs)) ++ r)
         (framed-rest 0x5251 2 2048 (p .map .end) (p .requested) (g .requested) (encs 2 (j .requested)) (encs-column 2 (p .requested .count) (p .requested .at) (h .requested .inside))
-        ∙ rw last (append-nil (framed 0x5251 (encs 2 (j .requested))))))))
+        ∙ rw last (append-nil (framedRecord 0x5251 (encs 2 (j .requested))))))))
 
     is-sized : Sized j
     is-sized =

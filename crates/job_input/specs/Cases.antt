@@ -1,4 +1,4 @@
--- Jobs and what they are taken apart into: a small one, and the same with one thing wrong.
+-- Inner: jobs and what they are taken apart into, a small one and the same with one thing wrong; a law computes them, and no promise names them.
 use Prim.Native.Nat.{ℕ}
 use mathlib.Core.List.{List, [], _∷_, _++_}
 use Rattle.plan_listing.specs.Job.{job}
@@ -29,15 +29,15 @@ halfEntry = 0x4D ∷ 0x50 ∷ 0 ∷ 0 ∷ 0 ∷ 1 ∷ 0 ∷ []
 abbrev withMap : List ℕ → Parsed
 withMap entries = read (job (0 ∷ 0 ∷ 0 ∷ 7 ∷ []) (0x41 ∷ 0x10041 ∷ []) (1 ∷ 258 ∷ []) (0xFE00 ∷ []) entries [])
 
-pub record Case : Type 0 where
+pub record JobCase : Type 0 where
   pub bytes : List ℕ
   pub parsed : Parsed
 
-abbrev case : List ℕ → Parsed → Case
+abbrev case : List ℕ → Parsed → JobCase
 case xs p = record { bytes = xs; parsed = p }
 
-abbrev pub cases : List Case
-cases =
+abbrev pub jobCases : List JobCase
+jobCases =
     case (tb ++ (pr ++ (kp ++ (mp ++ rq)))) (withMap (65535 ∷ 1 ∷ []))
     ∷ case (tb ++ (pr ++ (kp ++ (noEntries ++ rq)))) (withMap [])
     ∷ case (tb ++ (pr ++ (kp ++ (halfEntry ++ rq)))) damaged

@@ -1,4 +1,4 @@
--- A job's bytes taken apart (docs/01-rules.md, "The job program"): five records in a fixed order and nothing behind them, or damaged bytes.
+-- A job's bytes taken apart (docs/RULES.md, "The job program"): five records in a fixed order and nothing behind them, or damaged bytes.
 use Prim.Native.Nat.{ℕ, _+_, _/_, _%_}
 use mathlib.Core.List.{List, []}
 use mathlib.Core.Bool.{Bool}
@@ -9,11 +9,12 @@ use Rattle.number.specs.BigEndian.{be}
 use Rattle.plan_listing.specs.Job.{Job, job}
 use Rattle.job_input.specs.Column.{column}
 use Rattle.job_input.specs.declared.Field.{Field}
-use Rattle.job_input.specs.declared.Found.{Found}
-use Rattle.job_input.specs.declared.Found.the-variants.{Whole, Broken}
+use Rattle.job_input.specs.declared.FoundField.{FoundField}
+use Rattle.job_input.specs.declared.FoundField.the-variants.{Whole, Broken}
 use Rattle.job_input.specs.declared.Places.{Places}
 use Rattle.job_input.specs.declared.Located.{Located}
 use Rattle.job_input.specs.declared.Located.the-variants.{At, Damaged}
+use Rattle.job_input.specs.JobLimits.{jobSourceMax, jobPairsMax, jobKeptMax, jobMapMax, jobRequestedMax}
 
 -- ---- one record: a two-byte mark, a 4-byte length, a payload
 
@@ -38,13 +39,13 @@ stands m width most xs at =
 abbrev pub fieldOf : ℕ → List ℕ → ℕ → Field
 fieldOf width xs at = record { at = at + 6; count = size xs at / width; end = at + 6 + size xs at }
 
-unfoldable pub fieldAt : ℕ → ℕ → ℕ → List ℕ → ℕ → Found
+unfoldable pub fieldAt : ℕ → ℕ → ℕ → List ℕ → ℕ → FoundField
 fieldAt m width most xs at = pick (stands m width most xs at) (Whole (fieldOf width xs at)) Broken
 
 -- ---- the five records, once each, in this order, and nothing after RQ
 
 -- what follows a record that stands; where it does not, the job is damaged
-unfoldable pub after : Found → (Field → Located) → Located
+unfoldable pub after : FoundField → (Field → Located) → Located
 after (Whole f) rest = rest f
 after Broken rest = Damaged
 
@@ -52,11 +53,11 @@ after Broken rest = Damaged
 unfoldable pub locatedLists : List ℕ → Field → Field → Located
 locatedLists xs source pairs =
     -- KP, the kept code points: 4 bytes each, at most 4,096
-    after (fieldAt 0x4B50 4 4096 xs (pairs .end)) (λ kept.
+    after (fieldAt 0x4B50 4 jobKeptMax xs (pairs .end)) (λ kept.
     -- MP, the map: 2 bytes an entry, at most 8,192
-    after (fieldAt 0x4D50 2 8192 xs (kept .end)) (λ map.
+    after (fieldAt 0x4D50 2 jobMapMax xs (kept .end)) (λ map.
     -- RQ, the requested glyphs: 2 bytes each, at most 2,048
-    after (fieldAt 0x5251 2 2048 xs (map .end)) (λ requested.
+    after (fieldAt 0x5251 2 jobRequestedMax xs (map .end)) (λ requested.
     ifEq (requested .end) (length xs)
     (At (record { source = source; pairs = pairs; kept = kept; map = map; requested = requested }))
     Damaged)))
@@ -64,9 +65,9 @@ locatedLists xs source pairs =
 unfoldable pub located : List ℕ → Located
 located xs =
     -- TB, the source: at most 32,768 bytes
-    after (fieldAt 0x5442 1 32768 xs 0) (λ source.
+    after (fieldAt 0x5442 1 jobSourceMax xs 0) (λ source.
     -- PR, the pairs: 6 bytes each, at most 2,048
-    after (fieldAt 0x5052 6 2048 xs (source .end)) (λ pairs. locatedLists xs source pairs))
+    after (fieldAt 0x5052 6 jobPairsMax xs (source .end)) (λ pairs. locatedLists xs source pairs))
 
 -- ---- the lists
 
@@ -93,6 +94,6 @@ abbrev pub parse : List ℕ → Parsed
 parse xs = parsedAt xs (located xs)
 
 -- the lists of damaged bytes are empty
-abbrev pub jobOf : Parsed → Job
-jobOf (read j) = j
-jobOf damaged = job [] [] [] [] [] []
+abbrev pub parsedJob : Parsed → Job
+parsedJob (read j) = j
+parsedJob damaged = job [] [] [] [] [] []

@@ -1,3 +1,4 @@
+pub mod JobLimits
 pub mod Job
 pub mod Column
 pub mod Room

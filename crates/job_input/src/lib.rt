@@ -15,15 +15,15 @@ const MP: u32 = 0x4D50;
 const RQ: u32 = 0x5251;
 
 // The limits, in entries.
-pub const SOURCE_MAX: usize = 32768;
+pub const JOB_SOURCE_MAX: usize = 32768;
 
-pub const PAIRS_MAX: usize = 2048;
+pub const JOB_PAIRS_MAX: usize = 2048;
 
-pub const KEPT_MAX: usize = 4096;
+pub const JOB_KEPT_MAX: usize = 4096;
 
-pub const MAP_MAX: usize = 8192;
+pub const JOB_MAP_MAX: usize = 8192;
 
-pub const REQUESTED_MAX: usize = 2048;
+pub const JOB_REQUESTED_MAX: usize = 2048;
 
 // A record's payload: where it starts, how many entries it has, and where the next record starts.
 pub struct Field {
@@ -32,7 +32,7 @@ pub struct Field {
     pub end: usize,
 }
 
-pub enum Found {
+pub enum FoundField {
     Whole(Field),
     Broken,
 }
@@ -61,45 +61,45 @@ fn is_within(width: usize, most: usize, n: usize) -> bool
     n / width <= most
 }
 
-fn field_at(mark: u32, width: usize, most: usize, s: &[u8], at: usize) -> Found
+fn field_at(mark: u32, width: usize, most: usize, s: &[u8], at: usize) -> FoundField
     requires { ⌜ 1 ≤ width ⌝ }
     ensures { λ r. ⌜ r ≡ fieldAt mark width most (now (s .entry)) at ⌝ }
 {
     let n = s.len();
     if n < 6 {
-        return Found::Broken;
+        return FoundField::Broken;
     }
     if n - 6 < at {
-        return Found::Broken;
+        return FoundField::Broken;
     }
     if number::u16_at(s, at) != mark {
-        return Found::Broken;
+        return FoundField::Broken;
     }
     let size = number::u32_at(s, at + 2) as usize;
     if n - 6 - at < size {
-        return Found::Broken;
+        return FoundField::Broken;
     }
     if is_within(width, most, size) {
-        return Found::Whole(Field {
+        return FoundField::Whole(Field {
             at: at + 6,
             count: size / width,
             end: at + 6 + size,
         });
     }
-    Found::Broken
+    FoundField::Broken
 }
 
 // The records KP, MP and RQ, and nothing behind them.
 fn locate_lists(s: &[u8], source: Field, pairs: Field) -> Located
     ensures { λ r. ⌜ r ≡ locatedLists (now (s .entry)) source pairs ⌝ }
 {
-    let Found::Whole(kept) = field_at(KP, 4, KEPT_MAX, s, pairs.end) else {
+    let FoundField::Whole(kept) = field_at(KP, 4, JOB_KEPT_MAX, s, pairs.end) else {
         return Located::Damaged;
     };
-    let Found::Whole(map) = field_at(MP, 2, MAP_MAX, s, kept.end) else {
+    let FoundField::Whole(map) = field_at(MP, 2, JOB_MAP_MAX, s, kept.end) else {
         return Located::Damaged;
     };
-    let Found::Whole(requested) = field_at(RQ, 2, REQUESTED_MAX, s, map.end) else {
+    let FoundField::Whole(requested) = field_at(RQ, 2, JOB_REQUESTED_MAX, s, map.end) else {
         return Located::Damaged;
     };
     if requested.end != s.len() {
@@ -118,10 +118,10 @@ fn locate_lists(s: &[u8], source: Field, pairs: Field) -> Located
 pub fn locate(s: &[u8]) -> Located
     ensures { λ r. ⌜ r ≡ located (now (s .entry)) ⌝ }
 {
-    let Found::Whole(source) = field_at(TB, 1, SOURCE_MAX, s, 0) else {
+    let FoundField::Whole(source) = field_at(TB, 1, JOB_SOURCE_MAX, s, 0) else {
         return Located::Damaged;
     };
-    let Found::Whole(pairs) = field_at(PR, 6, PAIRS_MAX, s, source.end) else {
+    let FoundField::Whole(pairs) = field_at(PR, 6, JOB_PAIRS_MAX, s, source.end) else {
         return Located::Damaged;
     };
     locate_lists(s, source, pairs)

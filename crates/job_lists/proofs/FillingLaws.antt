@@ -11,10 +11,10 @@ use Rattle.laws.specs.Select.{each}
 use Rattle.laws.proofs.StoringLaws.{Storing, storing-start, storing-on, storing-done}
 use Rattle.number.specs.BigEndian.{be, Num}
 use Rattle.job_input.specs.Column.{column}
-use Rattle.job_lists.specs.Lent.{Fits}
+use Rattle.job_lists.specs.Lent.{ColumnFits}
 
 -- number i ends inside the bytes
-pub fits-at : (w stride : ℕ) (xs : List ℕ) (at n : ℕ) (out : List ℕ) (i : ℕ) → Fits w stride xs at n out → i < n → at + stride * i + w ≤ length xs
+pub fits-at : (w stride : ℕ) (xs : List ℕ) (at n : ℕ) (out : List ℕ) (i : ℕ) → ColumnFits w stride xs at n out → i < n → at + stride * i + w ≤ length xs
 fits-at w stride xs at n out i f h =
     let m = rw (mul-suc stride i) at (mul-le-mul-left stride h) in
     omega (arith, f .inside, m)

@@ -10,8 +10,8 @@ use Rattle.plan_listing.specs.Job.{Job}
 use Rattle.job_input.specs.declared.Places.{Places}
 use Rattle.job_input.specs.declared.Located.the-variants.{At}
 use Rattle.job_input.specs.Column.{column}
-use Rattle.job_input.specs.Job.{located, jobAt, parse, jobOf}
-use Rattle.job_lists.specs.Lent.{AtFront, Lent}
+use Rattle.job_input.specs.Job.{located, jobAt, parse, parsedJob}
+use Rattle.job_lists.specs.Lent.{AtFront, ListsHeld}
 use Rattle.job_input.proofs.ColumnLaws.{length-column}
 use Rattle.job_input.proofs.JobLaws.{placed, job-at}
 
@@ -27,16 +27,16 @@ module _ (w stride : ℕ) (xs : List ℕ) (at n : ℕ) (buffer : List ℕ) where
 module _ (xs : List ℕ) (p : Places) (e : located xs ≡ At p) where
   -- one list of the job: where its numbers stand, and the array before and after
   front : (part : Job → List ℕ) (w stride at n : ℕ) → part (jobAt xs p) ≡ column w stride xs at n
-      → (most : ℕ) (buffer buffer′ : List ℕ) → n ≤ most → most ≤ length buffer → buffer′ ≡ sets buffer 0 (part (jobOf (parse xs)))
+      → (most : ℕ) (buffer buffer′ : List ℕ) → n ≤ most → most ≤ length buffer → buffer′ ≡ sets buffer 0 (part (parsedJob (parse xs)))
       → AtFront n buffer′ (part (jobAt xs p))
   front part w stride at n q most buffer buffer′ a b h =
       rw (h, job-at xs p e, q) (front-column w stride xs at n buffer (omega (arith, a, b)))
 
   pub lent : (cs₀ cs gs₀ gs ks₀ ks ms₀ ms rs₀ rs : List ℕ)
       → 2048 ≤ length cs₀ → 2048 ≤ length gs₀ → 4096 ≤ length ks₀ → 8192 ≤ length ms₀ → 2048 ≤ length rs₀
-      → cs ≡ sets cs₀ 0 (jobOf (parse xs) .codes) → gs ≡ sets gs₀ 0 (jobOf (parse xs) .glyphs) → ks ≡ sets ks₀ 0 (jobOf (parse xs) .kept)
-      → ms ≡ sets ms₀ 0 (jobOf (parse xs) .newGlyphs) → rs ≡ sets rs₀ 0 (jobOf (parse xs) .requested)
-      → Lent xs p cs gs ks ms rs
+      → cs ≡ sets cs₀ 0 (parsedJob (parse xs) .codes) → gs ≡ sets gs₀ 0 (parsedJob (parse xs) .glyphs) → ks ≡ sets ks₀ 0 (parsedJob (parse xs) .kept)
+      → ms ≡ sets ms₀ 0 (parsedJob (parse xs) .newGlyphs) → rs ≡ sets rs₀ 0 (parsedJob (parse xs) .requested)
+      → ListsHeld xs p cs gs ks ms rs
   lent cs₀ cs gs₀ gs ks₀ ks ms₀ ms rs₀ rs lc lg lk lm lr hc hg hk hm hr =
       let g = placed xs p e in
       record {

@@ -1,22 +1,22 @@
 // The numbers of a job, copied into lent arrays.
 use job_input::Field;
-use job_input::KEPT_MAX;
+use job_input::JOB_KEPT_MAX;
+use job_input::JOB_MAP_MAX;
+use job_input::JOB_PAIRS_MAX;
+use job_input::JOB_REQUESTED_MAX;
 use job_input::Located;
-use job_input::MAP_MAX;
-use job_input::PAIRS_MAX;
 use job_input::Places;
-use job_input::REQUESTED_MAX;
 ghost use mathlib.Core.Path.{_≡_};
 ghost use Prim.Native.Nat.{_+_};
 ghost use lib.Seq.{sets};
 ghost use Rattle.job_input.specs.Column.{column};
-ghost use Rattle.job_input.specs.Room.{Payload, Placed};
-ghost use Rattle.job_input.specs.Job.{located, jobAt, parse, jobOf};
-ghost use Rattle.job_lists.specs.Lent.{Fits};
+ghost use Rattle.job_input.specs.Room.{Payload, Payloads};
+ghost use Rattle.job_input.specs.Job.{located, jobAt, parse, parsedJob};
+ghost use Rattle.job_lists.specs.Lent.{ColumnFits};
 
 // Copies n numbers of four bytes to the front of out: the first stands at `at`, each next one `stride` bytes further.
 fn fill_u32(s: &[u8], at: usize, stride: usize, n: usize, out: &mut [u32])
-    requires { ⌜ Fits 4 stride (now s) at n (now out) ⌝ }
+    requires { ⌜ ColumnFits 4 stride (now s) at n (now out) ⌝ }
     ensures { λ _. ⌜ now (out .exit) ≡ sets (now (out .entry)) 0 (column 4 stride (now (s .entry)) at n) ⌝ }
 {
     let mut i = 0;
@@ -28,7 +28,7 @@ fn fill_u32(s: &[u8], at: usize, stride: usize, n: usize, out: &mut [u32])
 
 // The same for numbers of two bytes.
 fn fill_u16(s: &[u8], at: usize, stride: usize, n: usize, out: &mut [u16])
-    requires { ⌜ Fits 2 stride (now s) at n (now out) ⌝ }
+    requires { ⌜ ColumnFits 2 stride (now s) at n (now out) ⌝ }
     ensures { λ _. ⌜ now (out .exit) ≡ sets (now (out .entry)) 0 (column 2 stride (now (s .entry)) at n) ⌝ }
 {
     let mut i = 0;
@@ -38,7 +38,12 @@ fn fill_u16(s: &[u8], at: usize, stride: usize, n: usize, out: &mut [u16])
     }
 }
 
-fn fill_pairs(s: &[u8], pairs: Field, codes: &mut [u32; PAIRS_MAX], glyphs: &mut [u16; PAIRS_MAX])
+fn fill_pairs(
+    s: &[u8],
+    pairs: Field,
+    codes: &mut [u32; JOB_PAIRS_MAX],
+    glyphs: &mut [u16; JOB_PAIRS_MAX],
+)
     requires { ⌜ Payload 6 2048 (now s) pairs ⌝ }
     ensures { λ _. ⌜ now (codes .exit) ≡ sets (now (codes .entry)) 0 (column 4 6 (now (s .entry)) (pairs .at) (pairs .count)) ⌝ }
     ensures { λ _. ⌜ now (glyphs .exit) ≡ sets (now (glyphs .entry)) 0 (column 2 6 (now (s .entry)) (pairs .at + 4) (pairs .count)) ⌝ }
@@ -50,11 +55,11 @@ fn fill_pairs(s: &[u8], pairs: Field, codes: &mut [u32; PAIRS_MAX], glyphs: &mut
 fn fill_lists(
     s: &[u8],
     places: Places,
-    kept: &mut [u32; KEPT_MAX],
-    map: &mut [u16; MAP_MAX],
-    requested: &mut [u16; REQUESTED_MAX],
+    kept: &mut [u32; JOB_KEPT_MAX],
+    map: &mut [u16; JOB_MAP_MAX],
+    requested: &mut [u16; JOB_REQUESTED_MAX],
 )
-    requires { ⌜ Placed (now s) places ⌝ }
+    requires { ⌜ Payloads (now s) places ⌝ }
     ensures { λ _. ⌜ now (kept .exit) ≡ sets (now (kept .entry)) 0 (jobAt (now (s .entry)) places .kept) ⌝ }
     ensures { λ _. ⌜ now (map .exit) ≡ sets (now (map .entry)) 0 (jobAt (now (s .entry)) places .newGlyphs) ⌝ }
     ensures { λ _. ⌜ now (requested .exit) ≡ sets (now (requested .entry)) 0 (jobAt (now (s .entry)) places .requested) ⌝ }
@@ -70,18 +75,18 @@ fn fill_lists(
 // Copies the job's numbers to the front of the lent arrays, where its bytes are not damaged. The source stays in the bytes.
 pub fn take_apart(
     s: &[u8],
-    codes: &mut [u32; PAIRS_MAX],
-    glyphs: &mut [u16; PAIRS_MAX],
-    kept: &mut [u32; KEPT_MAX],
-    map: &mut [u16; MAP_MAX],
-    requested: &mut [u16; REQUESTED_MAX],
+    codes: &mut [u32; JOB_PAIRS_MAX],
+    glyphs: &mut [u16; JOB_PAIRS_MAX],
+    kept: &mut [u32; JOB_KEPT_MAX],
+    map: &mut [u16; JOB_MAP_MAX],
+    requested: &mut [u16; JOB_REQUESTED_MAX],
 ) -> Located
     ensures { λ r. ⌜ r ≡ located (now (s .entry)) ⌝ }
-    ensures { λ _. ⌜ now (codes .exit) ≡ sets (now (codes .entry)) 0 (jobOf (parse (now (s .entry))) .codes) ⌝ }
-    ensures { λ _. ⌜ now (glyphs .exit) ≡ sets (now (glyphs .entry)) 0 (jobOf (parse (now (s .entry))) .glyphs) ⌝ }
-    ensures { λ _. ⌜ now (kept .exit) ≡ sets (now (kept .entry)) 0 (jobOf (parse (now (s .entry))) .kept) ⌝ }
-    ensures { λ _. ⌜ now (map .exit) ≡ sets (now (map .entry)) 0 (jobOf (parse (now (s .entry))) .newGlyphs) ⌝ }
-    ensures { λ _. ⌜ now (requested .exit) ≡ sets (now (requested .entry)) 0 (jobOf (parse (now (s .entry))) .requested) ⌝ }
+    ensures { λ _. ⌜ now (codes .exit) ≡ sets (now (codes .entry)) 0 (parsedJob (parse (now (s .entry))) .codes) ⌝ }
+    ensures { λ _. ⌜ now (glyphs .exit) ≡ sets (now (glyphs .entry)) 0 (parsedJob (parse (now (s .entry))) .glyphs) ⌝ }
+    ensures { λ _. ⌜ now (kept .exit) ≡ sets (now (kept .entry)) 0 (parsedJob (parse (now (s .entry))) .kept) ⌝ }
+    ensures { λ _. ⌜ now (map .exit) ≡ sets (now (map .entry)) 0 (parsedJob (parse (now (s .entry))) .newGlyphs) ⌝ }
+    ensures { λ _. ⌜ now (requested .exit) ≡ sets (now (requested .entry)) 0 (parsedJob (parse (now (s .entry))) .requested) ⌝ }
 {
     let located = job_input::locate(s);
     let Located::At(places) = located else {

@@ -6,14 +6,14 @@ use lib.ListN.{length, take}
 use native.Mathlib.Omega.{arith}
 use Rattle.laws.proofs.TakeLaws.{take-counts}
 use Rattle.number.specs.BigEndian.{enc}
-use Rattle.job_output.specs.Output.{accepted, refused, written, acceptance, refusal, Parts}
+use Rattle.job_output.specs.Output.{accepted, refused, writtenBy, acceptance, refusal, Parts}
 
-pub written-acceptance : (n : ℕ) (buffer : List ℕ) → n ≤ length buffer → written (acceptance n) buffer ≡ accepted (take n buffer)
-unfolding written acceptance accepted enc
+pub written-acceptance : (n : ℕ) (buffer : List ℕ) → n ≤ length buffer → writtenBy (acceptance n) buffer ≡ accepted (take n buffer)
+unfolding writtenBy acceptance accepted enc
 written-acceptance n buffer h = rw (← take-counts n buffer h)
 
-pub written-refusal : (number : ℕ) (buffer : List ℕ) → written (refusal number) buffer ≡ refused number
-unfolding written refusal refused enc
+pub written-refusal : (number : ℕ) (buffer : List ℕ) → writtenBy (refusal number) buffer ≡ refused number
+unfolding writtenBy refusal refused enc
 written-refusal number buffer = refl
 
 pub parts-acceptance : (n : ℕ) (buffer : List ℕ) → n ≤ length buffer → Parts (acceptance n) buffer

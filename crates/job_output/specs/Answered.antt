@@ -1,4 +1,4 @@
--- What the program writes for the bytes of a job (docs/01-rules.md, "The job program").
+-- What the program writes for the bytes of a job (docs/RULES.md, "The job program").
 use Prim.Native.Nat.{ℕ}
 use mathlib.Core.List.{List}
 use Rattle.job_input.specs.Job.{Parsed, read, damaged}
@@ -13,14 +13,14 @@ abbrev pub room : ℕ
 room = 32768
 
 -- OK and the result, or NO and the number; 10 is told as the number alone
-unfoldable pub told : Answer → List ℕ → List ℕ
-told (Written n k) bytes = accepted bytes
-told (Refused number) bytes = refused number
-told (NoRoom n) bytes = refused 10
+unfoldable pub replyBytes : Answer → List ℕ → List ℕ
+replyBytes (Written n k) bytes = accepted bytes
+replyBytes (Refused number) bytes = refused number
+replyBytes (NoRoom n) bytes = refused 10
 
 -- 12 comes before all other numbers
 unfoldable pub answered : Parsed → List ℕ
-answered (read j) = told (answerOf j room) (result j)
+answered (read j) = replyBytes (answerOf j room) (result j)
 answered damaged = refused 12
 
 -- ---- the same in two parts: the reply, and what is left in the work buffer

@@ -1,4 +1,4 @@
--- What the program writes (docs/01-rules.md, "The job program").
+-- What the program writes (docs/RULES.md, "The job program").
 use Prim.Native.Nat.{ℕ, _≤_}
 use mathlib.Core.Path.{_≡_}
 use mathlib.Core.List.{List, [], _∷_, _++_}
@@ -19,8 +19,8 @@ unfoldable pub refused : ℕ → List ℕ
 refused number = framed 0x4E 0x4F (number ∷ [])
 
 -- what a reply writes: so many bytes of its own, then so many of the work buffer
-unfoldable pub written : Reply → List ℕ → List ℕ
-written r buffer = take (r .headlength) (r .head) ++ take (r .length) buffer
+unfoldable pub writtenBy : Reply → List ℕ → List ℕ
+writtenBy r buffer = take (r .headlength) (r .head) ++ take (r .length) buffer
 
 -- ---- the two replies
 
@@ -33,9 +33,9 @@ refusal number = record { head = 0x4E ∷ 0x4F ∷ (enc 4 1 ++ (number ∷ []));
 -- ---- the parts that are written lie within what they are parts of
 
 -- the second follows from the first; both are asked where a part is lent
-abbrev pub Counts : ℕ → List ℕ → Type 0
-Counts n xs = (n ≤ length xs) × (n ≡ length (take n xs))
+abbrev pub PartLength : ℕ → List ℕ → Type 0
+PartLength n xs = (n ≤ length xs) × (n ≡ length (take n xs))
 
 pub record Parts (r : Reply) (buffer : List ℕ) : Type 0 where
-  pub head : Counts (r .headlength) (r .head)
-  pub bytes : Counts (r .length) buffer
+  pub head : PartLength (r .headlength) (r .head)
+  pub bytes : PartLength (r .length) buffer

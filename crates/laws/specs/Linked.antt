@@ -1,4 +1,4 @@
--- What holds of each element of a list, and of every two neighbours.
+-- Inner: what holds of each element of a list, and of every two neighbours; laws are stated with it, and no promise names it.
 use mathlib.Core.Path.{_≡_}
 use mathlib.Core.List.{List, [], _∷_}
 use mathlib.Core.Bool.{Bool, true}

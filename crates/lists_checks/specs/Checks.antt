@@ -1,4 +1,4 @@
--- Refusals 1 to 4: the sizes, and what each list breaks (docs/01-rules.md, "What is lent" and "Numbers of refusal").
+-- Refusals 1 to 4: the sizes, and what each list breaks (docs/RULES.md, "What is lent" and "Numbers of refusal").
 use Prim.Native.Nat.{ℕ}
 use mathlib.Core.List.{List}
 use mathlib.Core.Bool.{Bool, not}

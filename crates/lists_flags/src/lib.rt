@@ -4,7 +4,7 @@ ghost use Prim.Native.Nat.{_+_, _-_, _*_, _/_, _<_, _≤_};
 ghost use lib.ListN.{length, replicate};
 ghost use lib.Seq.{sets};
 ghost use Rattle.laws.specs.Search.{first};
-ghost use Rattle.lists_marks.specs.Marks.{between, marked, kept, isClear, isSet, frontOf, Bound, Flags, Places};
+ghost use Rattle.lists_marks.specs.Marks.{between, marked, kept, isClear, isSet, frontOf, Bound, Flags, CopyRoom};
 
 // The end of the block of place i, or high where that comes first. A block is 256 flags.
 pub fn block_end(i: usize, high: usize) -> usize
@@ -82,7 +82,7 @@ pub fn copy_marked(
     tocodes: &mut [u32],
     toglyphs: &mut [u16],
 ) -> usize
-    requires { ⌜ Places (now flags) (now codes) (now glyphs) (now tocodes) (now toglyphs) ⌝ }
+    requires { ⌜ CopyRoom (now flags) (now codes) (now glyphs) (now tocodes) (now toglyphs) ⌝ }
     ensures { λ r. ⌜ r ≡ length (kept (now (flags .entry)) (now (codes .entry))) ⌝ }
     ensures { λ _. ⌜ now (tocodes .exit) ≡ sets (now (tocodes .entry)) 0 (kept (now (flags .entry)) (now (codes .entry))) ⌝ }
     ensures { λ _. ⌜ now (toglyphs .exit) ≡ sets (now (toglyphs .entry)) 0 (kept (now (flags .entry)) (now (glyphs .entry))) ⌝ }

@@ -16,7 +16,7 @@ use Rattle.laws.proofs.ChoiceLaws.{by-leb}
 use Rattle.laws.proofs.RisingLaws.{rising-tail}
 use Rattle.laws.proofs.FrontLaws.{sets-front, sets-over}
 use Rattle.laws.proofs.SetsLaws.{getD-sets-in}
-use Rattle.lists_marks.specs.Marks.{between, below, passed, flagOf, flagged, painted, kept, Bound, Flags, Cleared, Places}
+use Rattle.lists_marks.specs.Marks.{between, below, passed, flagOf, flagged, painted, kept, Bound, Flags, Cleared, CopyRoom}
 use Rattle.lists_marks.proofs.BelowLaws.{below-tail, passed-none}
 
 -- ---- painted, store by store
@@ -329,7 +329,7 @@ module _ (fs cs gs tocs₀ togs₀ tocs togs : List ℕ) (i k : ℕ) where
   pub pairing-start : Pairing fs cs gs tocs₀ togs₀ tocs₀ togs₀ 0 0
   pairing-start = record { codes = copying-start fs cs tocs₀; glyphs = copying-start fs gs togs₀ }
 
-  module _ (p : Places fs cs gs tocs₀ togs₀) (l : Pairing fs cs gs tocs₀ togs₀ tocs togs i k) where
+  module _ (p : CopyRoom fs cs gs tocs₀ togs₀) (l : Pairing fs cs gs tocs₀ togs₀ tocs togs i k) where
     pub pairing-yes : i < length cs → (getD fs i 0 ≡ 0 → ⊥) → Pairing fs cs gs tocs₀ togs₀ (set tocs k (getD cs i 0)) (set togs k (getD gs i 0)) (i + 1) (k + 1)
     pairing-yes h e =
         record {

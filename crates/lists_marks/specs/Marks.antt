@@ -104,7 +104,7 @@ pub record Cleared (n : ℕ) (fs : List ℕ) : Type 0 where
   pub is : fs ≡ sets fs 0 (replicate n 0)
 
 -- a flag for each pair of two columns, and a place to copy each of its numbers to
-pub record Places (fs cs gs tocs togs : List ℕ) : Type 0 where
+pub record CopyRoom (fs cs gs tocs togs : List ℕ) : Type 0 where
   pub even : length cs ≡ length gs
   pub flags : length cs ≤ length fs
   pub code-room : length cs ≤ length tocs

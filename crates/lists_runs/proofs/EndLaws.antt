@@ -13,7 +13,7 @@ use Rattle.laws.specs.Search.{first}
 use Rattle.laws.proofs.ChoiceLaws.{false-true, both-left, both-right, by-pick}
 use Rattle.laws.proofs.FirstLaws.{first-holds}
 use Rattle.laws.proofs.SearchLaws.{Finding, seeking-start, looking-on, looking-found, looking-none}
-use Rattle.lists_runs.specs.Runs.{breaks, breaksAt, runEnd, Ends}
+use Rattle.lists_runs.specs.Runs.{breaks, breaksAt, runEnd, RunEndsAt}
 
 -- the pairs behind i go on up to k, and the search from k on finds the run's end
 pub record Ending (cs gs : List ℕ) (i k : ℕ) : Type 0 where
@@ -30,10 +30,10 @@ module _ (cs gs : List ℕ) (i : ℕ) where
     pub ending-on : (b : Bool) → k < length cs → b ≡ breaks (getD cs (k - 1) 0) (getD gs (k - 1) 0) (getD cs k 0) (getD gs k 0) → b ≡ false → Ending cs gs i (k + 1)
     ending-on b h q e = record { further = omega (arith, l .further); search = looking-on (l .search) h (sym q ∙ e) }
 
-    pub ending-found : (b : Bool) → k < length cs → b ≡ breaks (getD cs (k - 1) 0) (getD gs (k - 1) 0) (getD cs k 0) (getD gs k 0) → b ≡ true → Ends cs gs i k
+    pub ending-found : (b : Bool) → k < length cs → b ≡ breaks (getD cs (k - 1) 0) (getD gs (k - 1) 0) (getD cs k 0) (getD gs k 0) → b ≡ true → RunEndsAt cs gs i k
     ending-found b h q e = record { is = looking-found (l .search) h (sym q ∙ e); behind = l .further; within = l .search .within }
 
-    pub ending-last : length cs ≤ k → Ends cs gs i k
+    pub ending-last : length cs ≤ k → RunEndsAt cs gs i k
     ending-last h = record { is = looking-none (l .search) h; behind = l .further; within = l .search .within }
 
 pub ruleset ending = (ending-start, ending-on, ending-found, ending-last)
@@ -74,7 +74,7 @@ module _ (cs gs : List ℕ) where
       (eq-or-lt-of-le a))
 
   -- what holds at the run's first pair, and behind each pair if at it, holds at its last
-  pub run-along : (i e : ℕ) (P : ℕ → Type 0) → Ends cs gs i e → P i → ((k : ℕ) → k + 1 < e → Next cs gs k → P k → P (k + 1)) → P (e - 1)
+  pub run-along : (i e : ℕ) (P : ℕ → Type 0) → RunEndsAt cs gs i e → P i → ((k : ℕ) → k + 1 < e → Next cs gs k → P k → P (k + 1)) → P (e - 1)
   unfolding runEnd
   run-along i e P r p on = subst P (omega (arith, r .behind)) (go (e - 1 - i) (omega (arith, r .behind)))
     where
@@ -85,6 +85,6 @@ module _ (cs gs : List ℕ) where
           subst P (omega arith) (on (i + m) (omega arith) next (go m (omega arith)))
 
   -- the pair behind the run does not go on
-  pub run-breaks : (i e : ℕ) → Ends cs gs i e → e < length cs → breaksAt cs gs e ≡ true
+  pub run-breaks : (i e : ℕ) → RunEndsAt cs gs i e → e < length cs → breaksAt cs gs e ≡ true
   unfolding runEnd
   run-breaks i e r h = subst (λ (k : ℕ). breaksAt cs gs k ≡ true) (sym (r .is)) (first-holds (breaksAt cs gs) (length cs - (i + 1)) (i + 1) (omega (arith, r .is, r .behind)))

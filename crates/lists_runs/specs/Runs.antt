@@ -1,4 +1,4 @@
--- Runs in two columns, one of code points and one of glyphs: pairs whose code points and glyphs both rise by one.
+-- Inner: runs in two columns, one of code points and one of glyphs; no promise names them. The pairs of a run have code points and glyphs that both rise by one.
 use Prim.Native.Nat.{ℕ, _+_, _-_, _≤_, _<_}
 use mathlib.Core.Path.{_≡_}
 use mathlib.Core.List.{List}
@@ -21,7 +21,7 @@ unfoldable pub runEnd : List ℕ → List ℕ → ℕ → ℕ
 runEnd cs gs i = first (breaksAt cs gs) (length cs - (i + 1)) (i + 1)
 
 -- r is that place, for i one of the pairs
-pub record Ends (cs gs : List ℕ) (i r : ℕ) : Type 0 where
+pub record RunEndsAt (cs gs : List ℕ) (i r : ℕ) : Type 0 where
   pub is : r ≡ runEnd cs gs i
   pub behind : i < r
   pub within : r ≤ length cs

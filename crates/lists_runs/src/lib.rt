@@ -2,7 +2,7 @@
 ghost use mathlib.Core.Path.{_≡_};
 ghost use Prim.Native.Nat.{_<_};
 ghost use lib.ListN.{length};
-ghost use Rattle.lists_runs.specs.Runs.{breaks, Ends};
+ghost use Rattle.lists_runs.specs.Runs.{breaks, RunEndsAt};
 
 // Whether the pair (d, h) does not go on from the pair (c, g): the crate's is_gid_consecutive, asked of neighbours and turned round.
 fn breaks(c: u32, g: u16, d: u32, h: u16) -> bool
@@ -18,7 +18,7 @@ fn breaks(c: u32, g: u16, d: u32, h: u16) -> bool
 pub fn run_end(codes: &[u32], glyphs: &[u16], i: usize) -> usize
     requires { ⌜ length (now codes) ≡ length (now glyphs) ⌝ }
     requires { ⌜ i < length (now codes) ⌝ }
-    ensures { λ r. ⌜ Ends (now (codes .entry)) (now (glyphs .entry)) i r ⌝ }
+    ensures { λ r. ⌜ RunEndsAt (now (codes .entry)) (now (glyphs .entry)) i r ⌝ }
 {
     let mut k = i + 1;
     while k < codes.len() {

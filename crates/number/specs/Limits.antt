@@ -1,5 +1,5 @@
--- The limits of docs/01-rules.md, "What is lent", "Numbers of refusal" and "Records".
-use Prim.Native.Nat.{ℕ}
+-- The limits of docs/RULES.md, "What is lent", "Numbers of refusal" and "Records".
+use Prim.Native.Nat.{ℕ, _*_}
 
 abbrev pub sourceMax : ℕ
 sourceMax = 1048576
@@ -21,6 +21,10 @@ recordsMax = 64
 
 abbrev pub selectorsMax : ℕ
 selectorsMax = 512
+
+-- two tables for each selector
+abbrev pub tablesMax : ℕ
+tablesMax = 2 * selectorsMax
 
 abbrev pub format4LengthMax : ℕ
 format4LengthMax = 65535

@@ -1,4 +1,4 @@
-// The limits of docs/01-rules.md, "What is lent", "Numbers of refusal" and "Records".
+// The limits of docs/RULES.md, "What is lent", "Numbers of refusal" and "Records".
 pub const SOURCE_MAX: usize = 1048576;
 
 pub const PAIRS_MAX: usize = 65535;
@@ -12,6 +12,9 @@ pub const REQUESTED_MAX: usize = 65535;
 pub const RECORDS_MAX: usize = 64;
 
 pub const SELECTORS_MAX: usize = 512;
+
+// Two tables for each selector.
+pub const TABLES_MAX: usize = 2 * SELECTORS_MAX;
 
 pub const FORMAT4_LENGTH_MAX: usize = 65535;
 

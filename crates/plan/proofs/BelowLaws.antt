@@ -17,18 +17,18 @@ use Rattle.source.specs.Kind.{formatOf}
 use Rattle.source_header.specs.Header.{offsetOf}
 use Rattle.source_records.specs.Records.{leadsTo}
 use Rattle.format4_mapped.specs.Mapped4.{maps4, lastSays, segment4}
-use Rattle.plan_listing.specs.Listing.{mapsAs, maps, listed, codesOf}
+use Rattle.plan_listing.specs.Listing.{mapsAs, maps, listed, codeColumn}
 use lib.Dec.{leb}
 use borrow.Author.Tests.{leb-true}
 use Rattle.plan.specs.Making.{Leads}
 
 -- a column's places hold the numbers below b of those that pass
-select-below : (p : ℕ → Bool) (b : ℕ) → 0 < b → ((c : ℕ) → p c ≡ true → c < b) → (ps : List Pair) (k : ℕ) → getD (codesOf (select (λ q. p (q .0)) ps)) k 0 < b
+select-below : (p : ℕ → Bool) (b : ℕ) → 0 < b → ((c : ℕ) → p c ≡ true → c < b) → (ps : List Pair) (k : ℕ) → getD (codeColumn (select (λ q. p (q .0)) ps)) k 0 < b
 unfolding select
 select-below p b z h [] k = z
 select-below p b z h (x ∷ ps) k = go (p (x .0)) refl (select (λ q. p (q .0)) ps) (select-below p b z h ps) k
   where
-    go : (t : Bool) → p (x .0) ≡ t → (r : List Pair) → ((i : ℕ) → getD (codesOf r) i 0 < b) → (k : ℕ) → getD (codesOf (pick t (x ∷ r) r)) k 0 < b
+    go : (t : Bool) → p (x .0) ≡ t → (r : List Pair) → ((i : ℕ) → getD (codeColumn r) i 0 < b) → (k : ℕ) → getD (codeColumn (pick t (x ∷ r) r)) k 0 < b
     go true e r u zero = h (x .0) e
     go true e r u (suc k) = u k
     go false e r u k = u k
@@ -52,7 +52,7 @@ maps4-below xs at s len c b e =
     omega arith)
     _ e
 
-pub listed-below : (xs : List ℕ) (n : ℕ) (cs gs : List ℕ) (k : ℕ) → Bytes xs → Leads xs k 4 → (i : ℕ) → getD (codesOf (listed xs n cs gs k)) i 0 < 65536
+pub listed-below : (xs : List ℕ) (n : ℕ) (cs gs : List ℕ) (k : ℕ) → Bytes xs → Leads xs k 4 → (i : ℕ) → getD (codeColumn (listed xs n cs gs k)) i 0 < 65536
 unfolding listed maps
 listed-below xs n cs gs k b l i = select-below (maps xs n k) 65536 (omega arith) (λ c e. go (leadsTo xs k) (l .is) c e) (pairs cs gs) i
   where

@@ -18,9 +18,9 @@ use Rattle.laws.proofs.SetsLaws.{getD-sets-in}
 use Rattle.lists_marks.specs.Marks.{below, flagged, flagOf, Bound}
 use Rattle.lists_marks.proofs.MarksLaws.{length-flagged}
 use Rattle.lists_marks.proofs.BelowLaws.{below-tail}
-use Rattle.plan_listing.specs.Listing.{maps, Beside}
+use Rattle.plan_listing.specs.Listing.{maps, PointsFlagged}
 use Rattle.plan.specs.Covered.{reachesAbove, mapAlike, siblingCovers}
-use Rattle.plan.specs.CoveredFlags.{isSet, someSet, isOther, flagsDiffer, Rooms}
+use Rattle.plan.specs.CoveredFlags.{flagSet, someSet, isOther, flagsDiffer, CoveredRoom}
 use Rattle.plan.specs.Sibling.{firstSibling}
 use borrow.Author.Tests.{lt-ltb, le-ltb, le-leb, lt-leb, eq-eqb, ne-eqb}
 
@@ -45,7 +45,7 @@ told ps m fs₀ fs room e = record {
 set-told : (ps : List ℕ) (m : ℕ → Bool) (fs : List ℕ) → Told ps m fs → someSet fs (length ps) ≡ anyOf m ps
 unfolding someSet
 set-told ps m fs t =
-    some-ext (isSet fs) (λ i. m (getD ps i 0)) (length ps) 0
+    some-ext (flagSet fs) (λ i. m (getD ps i 0)) (length ps) 0
     (λ i a b. rw (t .flag-at i (omega arith)) (go (m (getD ps i 0))))
     ∙ sym (anyOf-some m 0 ps)
   where
@@ -120,7 +120,7 @@ rising-drop zero ps r = r
 rising-drop (suc i) [] r = r
 rising-drop (suc i) (x ∷ ps) r = rising-drop i ps (rising-tail r)
 
-module _ (xs : List ℕ) (k n : ℕ) (ps flags : List ℕ) (b : Beside n ps flags) where
+module _ (xs : List ℕ) (k n : ℕ) (ps flags : List ℕ) (b : PointsFlagged n ps flags) where
   pub some-mapped : (fs : List ℕ) (u : Bool) → fs ≡ sets flags 0 (flagged (maps xs n k) ps) → u ≡ someSet fs (length ps) → u ≡ anyOf (maps xs n k) ps
   some-mapped fs u d v = v ∙ set-told ps (maps xs n k) fs (told ps (maps xs n k) flags fs (b .flagged .beside) d)
 
@@ -132,7 +132,7 @@ module _ (xs : List ℕ) (k n : ℕ) (ps flags : List ℕ) (b : Beside n ps flag
     part-is : part ≡ drop split ps
     part-is = take-all (length ps - split) (drop split ps) (omega (arith, length-drop split ps))
 
-    pub beside-part : Beside n part flags
+    pub beside-part : PointsFlagged n part flags
     beside-part = record {
       glyphs = b .glyphs;
       flagged = rw part-is (record { rising = rising-drop split ps (b .flagged .rising); beside = omega (arith, b .flagged .beside, length-drop split ps) });
@@ -151,15 +151,15 @@ pub ruleset reaching-above = (some-mapped, beside-part, above-mapped, above-none
 -- ---- covered, read off the code's answers
 
 module _ (xs : List ℕ) (m k n : ℕ) (kept flags others : List ℕ) (i : ℕ) where
-  pub no-sibling : Rooms xs m k n kept flags others → i ≡ firstSibling xs k → m ≤ i → false ≡ siblingCovers xs n kept k
+  pub no-sibling : CoveredRoom xs m k n kept flags others → i ≡ firstSibling xs k → m ≤ i → false ≡ siblingCovers xs n kept k
   unfolding siblingCovers
   no-sibling r f h = rw (← f, ← r .counted .is, le-ltb i m h)
 
   -- work room that was written to is work room still
-  pub beside-again : (room : List ℕ) → Rooms xs m k n kept flags others → length room ≡ length flags → Beside n kept room
+  pub beside-again : (room : List ℕ) → CoveredRoom xs m k n kept flags others → length room ≡ length flags → PointsFlagged n kept room
   beside-again room r e = record { glyphs = r .glyphs; flagged = record { rising = r .rising; beside = omega (arith, e, r .beside) } }
 
-  module _ (u : Bool) (r : Rooms xs m k n kept flags others) (f : i ≡ firstSibling xs k) (h : i < m) (v : u ≡ reachesAbove xs n kept k) where
+  module _ (u : Bool) (r : CoveredRoom xs m k n kept flags others) (f : i ≡ firstSibling xs k) (h : i < m) (v : u ≡ reachesAbove xs n kept k) where
     pub reached-above : u ≡ true → false ≡ siblingCovers xs n kept k
     unfolding siblingCovers
     reached-above g = rw (← f, ← r .counted .is, lt-ltb i m h, ← v, g)

@@ -12,12 +12,12 @@ use Rattle.source.proofs.KindLaws.{tells14}
 use Rattle.source_records.specs.Records.{leadsTo}
 use Rattle.plan_listing.specs.Job.{Job, job}
 use Rattle.plan_listing.specs.Listing.{listed}
-use Rattle.format4.specs.Size.{sizeOf as sizeOf4}
-use Rattle.format12.specs.Format12.{sizeOf as sizeOf12}
+use Rattle.format4.specs.Size.{sizeOf4}
+use Rattle.format12.specs.Format12.{sizeOf12}
 use Rattle.plan.specs.Making.{Leads}
-use Rattle.format14.specs.Selectors.{given}
+use Rattle.format14.specs.Selectors.{job14}
 use Rattle.format14.specs.ByNumber.{Readable}
-use Rattle.format14.specs.Format14.{outcome as outcome14}
+use Rattle.format14.specs.Format14.{outcome14}
 use Rattle.plan.specs.declared.Outcome.{Outcome}
 use Rattle.plan.specs.declared.Why.the-variants.{Skipped}
 use Rattle.plan.specs.declared.Outcome.the-variants.{LeftOut, Made}
@@ -42,7 +42,7 @@ module _ (xs : List ℕ) (k : ℕ) (kind : Kind) (q : kind ≡ leadsTo xs k) whe
     fresh-none e = rw (← q, e)
 
     module _ (at n len : ℕ) (p : at ≡ offsetOf xs k) (e : kind ≡ Format14 n len) where
-      pub fresh-14 : (o : Outcome) → o ≡ by14 (outcome14 (given xs at len kept map requested)) → o ≡ fresh (job xs cs gs kept map requested) k
+      pub fresh-14 : (o : Outcome) → o ≡ by14 (outcome14 (job14 xs at len kept map requested)) → o ≡ fresh (job xs cs gs kept map requested) k
       unfolding fresh
       fresh-14 o h = rw (← q, e) (rw p at h)
 

@@ -12,18 +12,18 @@ use Rattle.source.specs.Kind.{kindAt}
 use Rattle.source_records.specs.Records.{leadsTo}
 use Rattle.plan_listing.specs.Job.{Job, glyphCount}
 use Rattle.plan_listing.specs.Listing.{mapsAs, maps, listed}
-use Rattle.format4.specs.declared.Size.{Size}
-use Rattle.format4.specs.declared.Size.the-variants.{Empty as Empty4, TooLong as TooLong4, Fits}
-use Rattle.format4.specs.Size.{sizeOf as sizeOf4, lengthOf as lengthOf4}
-use Rattle.format12.specs.Format12.{sizeOf as sizeOf12}
-use Rattle.format14.specs.Selectors.{given}
-use Rattle.format14.specs.declared.Outcome.{Outcome as Outcome14}
-use Rattle.format14.specs.declared.Outcome.the-variants.{Refused8, Empty as Empty14, Length}
-use Rattle.format14.specs.Format14.{outcome as outcome14}
+use Rattle.format4.specs.declared.Size4.{Size4}
+use Rattle.format4.specs.declared.Size4.the-variants.{Empty as Empty4, TooLong as TooLong4, Fits}
+use Rattle.format4.specs.Size.{sizeOf4, lengthOf4}
+use Rattle.format12.specs.Format12.{sizeOf12}
+use Rattle.format14.specs.Selectors.{job14}
+use Rattle.format14.specs.declared.Outcome14.{Outcome14}
+use Rattle.format14.specs.declared.Outcome14.the-variants.{Refused8, Empty as Empty14, Length}
+use Rattle.format14.specs.Format14.{outcome14}
 use Rattle.plan.specs.declared.Outcome.{Outcome}
 use Rattle.plan.specs.declared.Why.the-variants.{Skipped, Empty, TooLong}
 use Rattle.plan.specs.declared.Outcome.the-variants.{LeftOut, BadMapping, Made}
-use Rattle.plan.specs.Fresh.{listedOf, givenOf, by4, by14, freshAs, fresh}
+use Rattle.plan.specs.Fresh.{listedOf, job14Of, by4, by14, freshAs, fresh}
 
 -- ---- what is never fresh
 
@@ -32,7 +32,7 @@ pub fresh-never : (j : Job) (k : ℕ) (p : Outcome → Bool) → p (LeftOut Skip
 unfolding fresh
 fresh-never j k p skipped empty long bad made = go (leadsTo (j .source) k)
   where
-    size4 : (size : Size) → p (by4 size) ≡ false
+    size4 : (size : Size4) → p (by4 size) ≡ false
     size4 Empty4 = empty
     size4 TooLong4 = long
     size4 (Fits c) = made (lengthOf4 c)
@@ -45,7 +45,7 @@ fresh-never j k p skipped empty long bad made = go (leadsTo (j .source) k)
     go : (kind : Kind) → p (freshAs kind j k) ≡ false
     go (Format4 language s len) = size4 (sizeOf4 (listedOf j k))
     go (Format12 language g len) = made (sizeOf12 (listedOf j k) .bytes)
-    go (Format14 r len) = size14 (outcome14 (givenOf j k len))
+    go (Format14 r len) = size14 (outcome14 (job14Of j k len))
     go Unreadable = skipped
 
 -- ---- what depends on the offset alone
@@ -70,5 +70,5 @@ module _ (j : Job) (k r : ℕ) (e : offsetOf (j .source) r ≡ offsetOf (j .sour
       go : (kind : Kind) → freshAs kind j r ≡ freshAs kind j k
       go (Format4 language s len) = ap (λ ps. by4 (sizeOf4 ps)) listed-alike
       go (Format12 language g len) = ap (λ (ps : List Pair). Made (sizeOf12 ps .bytes)) listed-alike
-      go (Format14 n len) = ap (λ (at : ℕ). by14 (outcome14 (given (j .source) at len (j .kept) (j .newGlyphs) (j .requested)))) e
+      go (Format14 n len) = ap (λ (at : ℕ). by14 (outcome14 (job14 (j .source) at len (j .kept) (j .newGlyphs) (j .requested)))) e
       go Unreadable = refl

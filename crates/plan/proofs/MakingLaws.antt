@@ -9,8 +9,8 @@ use Rattle.laws.specs.Lists.{Pair, pairs}
 use Rattle.laws.proofs.SetsLaws.{take-sets}
 use Rattle.laws.proofs.LengthLaws.{length-map, length-pairs, length-select}
 use Rattle.number.specs.Limits.{pairsMax}
-use Rattle.plan_listing.specs.Listing.{maps, listed, codesOf, glyphsOf, Lists, Copied}
-use Rattle.plan.specs.Making.{Pairs, Fronts}
+use Rattle.plan_listing.specs.Listing.{maps, listed, codeColumn, glyphColumn, ListedCount, Copied}
+use Rattle.plan.specs.Making.{PairsRoom, Fronts}
 use Rattle.plan.specs.Making.{Front}
 
 -- ---- a part of a column
@@ -32,7 +32,7 @@ pub ruleset fronts = (front-codes, front-glyphs)
 
 -- ---- pairs and their columns
 
-pub pairs-columns : (ps : List Pair) → pairs (codesOf ps) (glyphsOf ps) ≡ ps
+pub pairs-columns : (ps : List Pair) → pairs (codeColumn ps) (glyphColumn ps) ≡ ps
 pairs-columns [] = refl
 pairs-columns (p ∷ ps) = ap (λ (l : List Pair). p ∷ l) (pairs-columns ps)
 
@@ -50,23 +50,23 @@ pub record Holds (m : ℕ) (cs gs : List ℕ) (L : List Pair) : Type 0 where
   pub front : Front m cs gs
   pub is : pairs (take m cs) (take m gs) ≡ L
 
-module _ (xs : List ℕ) (k n : ℕ) (cs gs fs tocs togs : List ℕ) (p : Pairs xs k n cs gs fs tocs togs) where
+module _ (xs : List ℕ) (k n : ℕ) (cs gs fs tocs togs : List ℕ) (p : PairsRoom xs k n cs gs fs tocs togs) where
   abbrev L : List Pair
   L = listed xs n cs gs k
 
   -- copied
-  module _ (ncs ngs : List ℕ) (m : ℕ) (e : m ≡ length L) (a : ncs ≡ sets tocs 0 (codesOf L)) (b : ngs ≡ sets togs 0 (glyphsOf L)) where
+  module _ (ncs ngs : List ℕ) (m : ℕ) (e : m ≡ length L) (a : ncs ≡ sets tocs 0 (codeColumn L)) (b : ngs ≡ sets togs 0 (glyphColumn L)) where
     pub copied : Holds m ncs ngs L
     copied =
         let lc = length-map (λ (q : Pair). q .0) L in
         let lg = length-map (λ (q : Pair). q .1) L in
         let u = length-listed xs n cs gs k in
-        let codes : take m ncs ≡ codesOf L = rw (a, e, ← lc) (take-sets tocs (codesOf L) (omega (arith, p .columns .codes))) in
-        let glyphs : take m ngs ≡ glyphsOf L = rw (b, e, ← lg) (take-sets togs (glyphsOf L) (omega (arith, p .columns .glyphs, p .columns .even))) in
+        let codes : take m ncs ≡ codeColumn L = rw (a, e, ← lc) (take-sets tocs (codeColumn L) (omega (arith, p .columns .codes))) in
+        let glyphs : take m ngs ≡ glyphColumn L = rw (b, e, ← lg) (take-sets togs (glyphColumn L) (omega (arith, p .columns .glyphs, p .columns .even))) in
         record {
           front = record {
-            codes = rw (a, length-sets tocs 0 (codesOf L)) (omega (arith, p .columns .codes));
-            glyphs = rw (b, length-sets togs 0 (glyphsOf L)) (omega (arith, p .columns .glyphs, p .columns .even));
+            codes = rw (a, length-sets tocs 0 (codeColumn L)) (omega (arith, p .columns .codes));
+            glyphs = rw (b, length-sets togs 0 (glyphColumn L)) (omega (arith, p .columns .glyphs, p .columns .even));
             few = omega (arith, p .few);
           };
           is = rw (codes, glyphs) (pairs-columns L);
@@ -88,7 +88,7 @@ module _ (xs : List ℕ) (k n : ℕ) (cs gs fs tocs togs : List ℕ) (p : Pairs 
     lent-front = lent .front
 
   -- one or the other
-  module _ (count front : ℕ) (l : Lists L cs gs count front) where
+  module _ (count front : ℕ) (l : ListedCount L cs gs count front) where
     pub noted : Fronts xs n cs gs k front
     noted = l .first
 

@@ -19,7 +19,7 @@ use Rattle.plan.specs.declared.Outcome.the-variants.{LeftOut}
 use Rattle.plan.specs.Outcomes.{at}
 use Rattle.plan.specs.Sizes.{Short, Small}
 use Rattle.plan.specs.Making.{Ready}
-use Rattle.plan.specs.CoveredFlags.{Rooms}
+use Rattle.plan.specs.CoveredFlags.{CoveredRoom}
 use Rattle.plan.specs.Plan.{outcomeOf, outcomes, plan}
 use Rattle.plan.specs.Prepared.{Prepared}
 use Rattle.plan.specs.Notes.{noted, outcomesIn, rowIn, frontsIn, endsIn, notesMax, Fronted, Endings, Notebook, Leaves, Stays}
@@ -51,7 +51,7 @@ module _ (j : Job) (fs os tocs togs : List ℕ) (p : Prepared j fs os tocs togs)
     kept-flags = p .kept-flags;
   }
 
-  pub rooms : (k : ℕ) → k < records j → Rooms (j .source) (records j) k (glyphCount j) (j .kept) fs os
+  pub rooms : (k : ℕ) → k < records j → CoveredRoom (j .source) (records j) k (glyphCount j) (j .kept) fs os
   rooms k h = record {
     counted = p .counted;
     below = h;
@@ -177,7 +177,7 @@ module _ (j : Job) (m : ℕ) (fs ot tocs togs ns : List ℕ) (k : ℕ) (l : Plan
   pub planning-ready : k < m → Ready j k fs tocs togs
   planning-ready h = ready j fs ot tocs togs (l .prepared) k (omega (arith, h, l .all))
 
-  pub planning-rooms : k < m → Rooms (j .source) (records j) k (glyphCount j) (j .kept) fs ot
+  pub planning-rooms : k < m → CoveredRoom (j .source) (records j) k (glyphCount j) (j .kept) fs ot
   planning-rooms h = rooms j fs ot tocs togs (l .prepared) k (omega (arith, h, l .all))
 
   pub planning-earlier : k < m → Earlier j (outcomesIn k ns) k

@@ -19,7 +19,7 @@ use Rattle.source_records.specs.Records.{leadsTo}
 use Rattle.plan_listing.specs.Job.{Job, job, glyphCount}
 use Rattle.laws.proofs.ReadLaws.{getD-row}
 use Rattle.plan.specs.Making.{Fronts}
-use Rattle.format14.specs.Selectors.{given}
+use Rattle.format14.specs.Selectors.{job14}
 use Rattle.format14.specs.ByNumber.{slot}
 use Rattle.format14.specs.Ends.{Ends}
 use Rattle.plan.specs.declared.Outcome.{Outcome}
@@ -88,7 +88,7 @@ module _ (xs cs gs kept map requested : List ℕ) (k : ℕ) (kind : Kind) (q : k
   turned-none notes e = other-format 0 (ap formatOf e) (λ h. omega arith) notes notes refl
 
   pub turned-14 : (at n len : ℕ) (before after : List ℕ) → at ≡ offsetOf xs k → kind ≡ Format14 n len
-      → Ends (slot (given xs at len kept map requested)) (2 * be 4 xs (at + 6)) (endsIn after) → Turned j k o before after
+      → Ends (slot (job14 xs at len kept map requested)) (2 * be 4 xs (at + 6)) (endsIn after) → Turned j k o before after
   turned-14 at n len before after p e h = record {
     this = λ m. record {
       is = λ n′ len′ t.

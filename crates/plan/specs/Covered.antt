@@ -1,4 +1,4 @@
--- When a format 12 record is covered by its sibling (docs/01-rules.md, "Format 12").
+-- When a format 12 record is covered by its sibling (docs/RULES.md, "Format 12").
 use Prim.Native.Nat.{ℕ}
 use mathlib.Core.List.{List}
 use mathlib.Core.Bool.{Bool, not}

@@ -9,11 +9,11 @@ use Rattle.laws.specs.Search.{some}
 use Rattle.source_records.specs.Records.{Counted}
 
 -- one of the first n flags is set
-abbrev pub isSet : List ℕ → ℕ → Bool
-isSet flags i = ltb 0 (getD flags i 0)
+abbrev pub flagSet : List ℕ → ℕ → Bool
+flagSet flags i = ltb 0 (getD flags i 0)
 
 unfoldable pub someSet : List ℕ → ℕ → Bool
-someSet flags n = some (isSet flags) n 0
+someSet flags n = some (flagSet flags) n 0
 
 -- two flags of the first n that are not the same
 abbrev pub isOther : List ℕ → List ℕ → ℕ → Bool
@@ -23,7 +23,7 @@ unfoldable pub flagsDiffer : List ℕ → List ℕ → ℕ → Bool
 flagsDiffer flags others n = some (isOther flags others) n 0
 
 -- record k is one of m, the font has n glyphs, the kept points rise, and each has a flag in both rows
-pub record Rooms (xs : List ℕ) (m k n : ℕ) (kept flags others : List ℕ) : Type 0 where
+pub record CoveredRoom (xs : List ℕ) (m k n : ℕ) (kept flags others : List ℕ) : Type 0 where
   pub counted : Counted xs m
   pub below : k < m
   pub glyphs : n < 65536

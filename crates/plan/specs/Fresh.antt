@@ -1,4 +1,4 @@
--- What a record works on, the table it makes, and what becomes of it where no earlier table serves it (docs/01-rules.md, "Records").
+-- What a record works on, the table it makes, and what becomes of it where no earlier table serves it (docs/RULES.md, "Records").
 use Prim.Native.Nat.{ℕ}
 use mathlib.Core.List.{List, []}
 use Rattle.laws.specs.Lists.{Pair}
@@ -8,15 +8,15 @@ use Rattle.source_header.specs.Header.{offsetOf}
 use Rattle.source_records.specs.Records.{leadsTo}
 use Rattle.plan_listing.specs.Job.{Job, glyphCount}
 use Rattle.plan_listing.specs.Listing.{listed}
-use Rattle.format4.specs.declared.Size.{Size}
-use Rattle.format4.specs.declared.Size.the-variants.{Empty as Empty4, TooLong as TooLong4, Fits}
+use Rattle.format4.specs.declared.Size4.{Size4}
+use Rattle.format4.specs.declared.Size4.the-variants.{Empty as Empty4, TooLong as TooLong4, Fits}
 use Rattle.format4.specs.Format4.{format4}
-use Rattle.format4.specs.Size.{sizeOf as sizeOf4, lengthOf as lengthOf4}
-use Rattle.format12.specs.Format12.{format12, sizeOf as sizeOf12}
-use Rattle.format14.specs.Selectors.{Given, given}
-use Rattle.format14.specs.declared.Outcome.{Outcome as Outcome14}
-use Rattle.format14.specs.declared.Outcome.the-variants.{Refused8, Empty as Empty14, Length}
-use Rattle.format14.specs.Format14.{format14, rows, outcome as outcome14}
+use Rattle.format4.specs.Size.{sizeOf4, lengthOf4}
+use Rattle.format12.specs.Format12.{format12, sizeOf12}
+use Rattle.format14.specs.Selectors.{Job14, job14}
+use Rattle.format14.specs.declared.Outcome14.{Outcome14}
+use Rattle.format14.specs.declared.Outcome14.the-variants.{Refused8, Empty as Empty14, Length}
+use Rattle.format14.specs.Format14.{format14, rows, outcome14}
 use Rattle.plan.specs.declared.Outcome.{Outcome}
 use Rattle.plan.specs.declared.Why.the-variants.{Skipped, Empty, TooLong}
 use Rattle.plan.specs.declared.Outcome.the-variants.{LeftOut, BadMapping, Made}
@@ -28,15 +28,15 @@ abbrev pub listedOf : Job → ℕ → List Pair
 listedOf j k = listed (j .source) (glyphCount j) (j .codes) (j .glyphs) k
 
 -- a format 14 subtable of that length, and the lists that are lent
-abbrev pub givenOf : Job → ℕ → ℕ → Given
-givenOf j k len = given (j .source) (offsetOf (j .source) k) len (j .kept) (j .newGlyphs) (j .requested)
+abbrev pub job14Of : Job → ℕ → ℕ → Job14
+job14Of j k len = job14 (j .source) (offsetOf (j .source) k) len (j .kept) (j .newGlyphs) (j .requested)
 
 -- ---- the table it makes
 
 abbrev pub tableAs : Kind → Job → ℕ → List ℕ
 tableAs (Format4 language segments len) j k = format4 language (listedOf j k)
 tableAs (Format12 language groups len) j k = format12 language (listedOf j k)
-tableAs (Format14 selectors len) j k = format14 (rows (givenOf j k len))
+tableAs (Format14 selectors len) j k = format14 (rows (job14Of j k len))
 tableAs Unreadable j k = []
 
 unfoldable pub tableOf : Job → ℕ → List ℕ
@@ -45,7 +45,7 @@ tableOf j k = tableAs (leadsTo (j .source) k) j k
 -- ---- of a record that no earlier table serves
 
 -- format 4 may be empty or too long
-abbrev pub by4 : Size → Outcome
+abbrev pub by4 : Size4 → Outcome
 by4 Empty4 = LeftOut Empty
 by4 TooLong4 = LeftOut TooLong
 by4 (Fits n) = Made (lengthOf4 n)
@@ -60,7 +60,7 @@ by14 (Length n) = Made n
 abbrev pub freshAs : Kind → Job → ℕ → Outcome
 freshAs (Format4 language segments len) j k = by4 (sizeOf4 (listedOf j k))
 freshAs (Format12 language groups len) j k = Made (sizeOf12 (listedOf j k) .bytes)
-freshAs (Format14 selectors len) j k = by14 (outcome14 (givenOf j k len))
+freshAs (Format14 selectors len) j k = by14 (outcome14 (job14Of j k len))
 freshAs Unreadable j k = LeftOut Skipped
 
 unfoldable pub fresh : Job → ℕ → Outcome

@@ -9,7 +9,7 @@ use mathlib.Core.Logic.{_⊎_}
 use lib.ListN.{length, getD, take, drop}
 use Rattle.laws.specs.Choice.{ifEq}
 use Rattle.number.specs.BigEndian.{be}
-use Rattle.number.specs.Limits.{recordsMax, selectorsMax}
+use Rattle.number.specs.Limits.{recordsMax, tablesMax}
 use Rattle.source.specs.declared.Kind.the-variants.{Format14}
 use Rattle.source_header.specs.Header.{offsetOf}
 use Rattle.source.specs.Kind.{formatOf}
@@ -23,7 +23,7 @@ use Rattle.plan.specs.declared.Why.the-variants.{NotRetained, Skipped, E
 use Rattle.plan.specs.declared.Outcome.{Outcome}
 use Rattle.plan.specs.declared.Outcome.the-variants.{LeftOut, BadMapping, Served, Made}
 use Rattle.plan.specs.Outcomes.{at, isMade}
-use Rattle.plan.specs.Fresh.{givenOf}
+use Rattle.plan.specs.Fresh.{job14Of}
 
 -- ---- an outcome as a number
 
@@ -64,9 +64,8 @@ frontsIn notes = take recordsMax (drop recordsMax notes)
 unfoldable pub endsIn : List ℕ → List ℕ
 endsIn notes = drop (2 * recordsMax) notes
 
--- two tables for each selector
 abbrev pub notesMax : ℕ
-notesMax = 2 * recordsMax + 2 * selectorsMax
+notesMax = 2 * recordsMax + tablesMax
 
 -- ---- what they say
 
@@ -77,7 +76,7 @@ pub record Fronted (xs : List ℕ) (n : ℕ) (codes glyphs notes : List ℕ) : T
 
 -- how far the tables of record k's new subtable stand from its end, where it leads to a format 14
 pub record Ended (j : Job) (k : ℕ) (notes : List ℕ) : Type 0 where
-  pub is : (n len : ℕ) → leadsTo (j .source) k ≡ Format14 n len → Ends (slot (givenOf j k len)) (2 * be 4 (j .source) (offsetOf (j .source) k + 6)) (endsIn notes)
+  pub is : (n len : ℕ) → leadsTo (j .source) k ≡ Format14 n len → Ends (slot (job14Of j k len)) (2 * be 4 (j .source) (offsetOf (j .source) k + 6)) (endsIn notes)
 
 -- the ends of each table that the first m records made
 pub record Endings (j : Job) (os : List Outcome) (m : ℕ) (notes : List ℕ) : Type 0 where

@@ -1,4 +1,4 @@
--- What an outcome says of its record, and which earlier table serves a record (docs/01-rules.md, "Records").
+-- What an outcome says of its record, and which earlier table serves a record (docs/RULES.md, "Records").
 use Prim.Native.Nat.{ℕ}
 use mathlib.Core.List.{List}
 use mathlib.Core.Bool.{Bool, true, false}

@@ -1,4 +1,4 @@
--- What becomes of each record, and what refusals 8 and 9 ask of it (docs/01-rules.md, "Records" and "Numbers of refusal").
+-- What becomes of each record, and what refusals 8 and 9 ask of it (docs/RULES.md, "Records" and "Numbers of refusal").
 -- What an outcome says, and which earlier table serves a record: Outcomes.antt. The table a record makes, and what becomes of one that no
 -- earlier table serves: Fresh.antt.
 use Prim.Native.Nat.{ℕ, zero, suc}

@@ -7,7 +7,7 @@ use Rattle.number.specs.Limits.{recordsMax, pairsMax, sourceMax, keptMax}
 use Rattle.source_header.specs.Header.{recordCount}
 use Rattle.source_records.specs.Records.{Counted}
 use Rattle.plan_listing.specs.Job.{Job, glyphCount}
-use Rattle.plan_listing.specs.Listing.{Columns}
+use Rattle.plan_listing.specs.Listing.{ColumnsWithRoom}
 use Rattle.format14.specs.Streams.{CodePoints}
 
 -- the lists are those of a job that refusals 1 to 4 let pass, its source has as many records as its header says, and the work room is long
@@ -18,7 +18,7 @@ pub record Prepared (j : Job) (flags others tocodes toglyphs : List ℕ) : Type 
   pub glyph-count : glyphCount j < 65536
   pub codes-rise : Rising (j .codes)
   pub few-pairs : length (j .codes) ≤ pairsMax
-  pub columns : Columns (j .codes) (j .glyphs) tocodes toglyphs
+  pub columns : ColumnsWithRoom (j .codes) (j .glyphs) tocodes toglyphs
   pub source-small : length (j .source) ≤ sourceMax
   pub kept-rises : Rising (j .kept)
   pub kept-few : length (j .kept) ≤ keptMax

@@ -1,4 +1,4 @@
--- The sibling of a format 12 record (docs/01-rules.md, "Format 12").
+-- The sibling of a format 12 record (docs/RULES.md, "Format 12").
 use Prim.Native.Nat.{ℕ}
 use mathlib.Core.List.{List}
 use mathlib.Core.Bool.{Bool, false}

@@ -1,7 +1,7 @@
 // No functions: what becomes of each record of a source, the table that it makes, which earlier table serves it, what refusals 8 and 9 ask,
 // and where a plan is noted in lent numbers.
 use number::limits::RECORDS_MAX;
-use number::limits::SELECTORS_MAX;
+use number::limits::TABLES_MAX;
 
 // Why a record is in no result.
 pub enum Why {
@@ -27,4 +27,4 @@ pub const FRONTS: usize = RECORDS_MAX;
 // and from here on how far the tables of the new format 14 subtable stand from its end.
 pub const ENDS: usize = 2 * RECORDS_MAX;
 
-pub const NOTES: usize = 2 * RECORDS_MAX + 2 * SELECTORS_MAX;
+pub const NOTES: usize = 2 * RECORDS_MAX + TABLES_MAX;

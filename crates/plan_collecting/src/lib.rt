@@ -6,11 +6,11 @@ ghost use lib.ListN.{length};
 ghost use lib.Seq.{sets};
 ghost use Rattle.source_records.specs.Records.{Placed};
 ghost use Rattle.lists_marks.specs.Marks.{flagged};
-ghost use Rattle.plan_listing.specs.Listing.{mapsAs, maps, listed, codesOf, glyphsOf, Asked, Beside, Columns, Lists, Copied};
+ghost use Rattle.plan_listing.specs.Listing.{mapsAs, maps, listed, codeColumn, glyphColumn, KindFlagged, PointsFlagged, ColumnsWithRoom, ListedCount, Copied};
 
 // Sets the flag of each point to whether the subtable of that kind maps it.
 fn collect_unicodes(s: &[u8], at: usize, kind: Kind, n: u32, points: &[u32], flags: &mut [u8])
-    requires { ⌜ Asked kind (now s) at n (now points) (now flags) ⌝ }
+    requires { ⌜ KindFlagged kind (now s) at n (now points) (now flags) ⌝ }
     ensures { λ _. ⌜ now (flags .exit) ≡ sets (now (flags .entry)) 0 (flagged (mapsAs kind (now (s .entry)) at n) (now (points .entry))) ⌝ }
 {
     match kind {
@@ -42,7 +42,7 @@ fn collect_unicodes(s: &[u8], at: usize, kind: Kind, n: u32, points: &[u32], fla
 // The same for the subtable that record k leads to.
 pub fn collect_record(s: &[u8], k: usize, n: u32, points: &[u32], flags: &mut [u8])
     requires { ⌜ Placed (now s) k ⌝ }
-    requires { ⌜ Beside n (now points) (now flags) ⌝ }
+    requires { ⌜ PointsFlagged n (now points) (now flags) ⌝ }
     ensures { λ _. ⌜ now (flags .exit) ≡ sets (now (flags .entry)) 0 (flagged (maps (now (s .entry)) n k) (now (points .entry))) ⌝ }
 {
     let record = source_records::encoding_record(s, k);
@@ -62,11 +62,11 @@ pub fn list_record(
     toglyphs: &mut [u16],
 ) -> usize
     requires { ⌜ Placed (now s) k ⌝ }
-    requires { ⌜ Beside n (now codes) (now flags) ⌝ }
-    requires { ⌜ Columns (now codes) (now glyphs) (now tocodes) (now toglyphs) ⌝ }
+    requires { ⌜ PointsFlagged n (now codes) (now flags) ⌝ }
+    requires { ⌜ ColumnsWithRoom (now codes) (now glyphs) (now tocodes) (now toglyphs) ⌝ }
     ensures { λ r. ⌜ r ≡ length (listed (now (s .entry)) n (now (codes .entry)) (now (glyphs .entry)) k) ⌝ }
-    ensures { λ _. ⌜ now (tocodes .exit) ≡ sets (now (tocodes .entry)) 0 (codesOf (listed (now (s .entry)) n (now (codes .entry)) (now (glyphs .entry)) k)) ⌝ }
-    ensures { λ _. ⌜ now (toglyphs .exit) ≡ sets (now (toglyphs .entry)) 0 (glyphsOf (listed (now (s .entry)) n (now (codes .entry)) (now (glyphs .entry)) k)) ⌝ }
+    ensures { λ _. ⌜ now (tocodes .exit) ≡ sets (now (tocodes .entry)) 0 (codeColumn (listed (now (s .entry)) n (now (codes .entry)) (now (glyphs .entry)) k)) ⌝ }
+    ensures { λ _. ⌜ now (toglyphs .exit) ≡ sets (now (toglyphs .entry)) 0 (glyphColumn (listed (now (s .entry)) n (now (codes .entry)) (now (glyphs .entry)) k)) ⌝ }
 {
     collect_record(s, k, n, codes, flags);
     lists_flags::copy_marked(flags, codes, glyphs, tocodes, toglyphs)
@@ -90,9 +90,9 @@ pub fn list_front(
     toglyphs: &mut [u16],
 ) -> Listed
     requires { ⌜ Placed (now s) k ⌝ }
-    requires { ⌜ Beside n (now codes) (now flags) ⌝ }
-    requires { ⌜ Columns (now codes) (now glyphs) (now tocodes) (now toglyphs) ⌝ }
-    ensures { λ r. ⌜ Lists (listed (now (s .entry)) n (now (codes .entry)) (now (glyphs .entry)) k) (now (codes .entry)) (now (glyphs .entry)) (r .count) (r .front) ⌝ }
+    requires { ⌜ PointsFlagged n (now codes) (now flags) ⌝ }
+    requires { ⌜ ColumnsWithRoom (now codes) (now glyphs) (now tocodes) (now toglyphs) ⌝ }
+    ensures { λ r. ⌜ ListedCount (listed (now (s .entry)) n (now (codes .entry)) (now (glyphs .entry)) k) (now (codes .entry)) (now (glyphs .entry)) (r .count) (r .front) ⌝ }
     ensures { λ r. ⌜ Copied (listed (now (s .entry)) n (now (codes .entry)) (now (glyphs .entry)) k) (r .front) (now (tocodes .entry)) (now (toglyphs .entry)) (now (tocodes .exit)) (now (toglyphs .exit)) ⌝ }
 {
     collect_record(s, k, n, codes, flags);

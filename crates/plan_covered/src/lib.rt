@@ -6,9 +6,9 @@ ghost use lib.Dec.{ltb, eqb};
 ghost use mathlib.Core.Bool.{not};
 ghost use Rattle.laws.specs.Select.{anyOf};
 ghost use Rattle.source_records.specs.Records.{Placed};
-ghost use Rattle.plan_listing.specs.Listing.{maps, Beside};
+ghost use Rattle.plan_listing.specs.Listing.{maps, PointsFlagged};
 ghost use Rattle.plan.specs.Covered.{reachesAbove, siblingCovers, covered};
-ghost use Rattle.plan.specs.CoveredFlags.{someSet, flagsDiffer, Rooms};
+ghost use Rattle.plan.specs.CoveredFlags.{someSet, flagsDiffer, CoveredRoom};
 
 fn is_set(flag: u8) -> bool
     ensures { λ r. ⌜ r ≡ ltb 0 flag ⌝ }
@@ -34,7 +34,7 @@ fn some_set(flags: &[u8], n: usize) -> bool
 // Whether the subtable of record k maps one of the points.
 fn maps_some(s: &[u8], k: usize, n: u32, points: &[u32], flags: &mut [u8]) -> bool
     requires { ⌜ Placed (now s) k ⌝ }
-    requires { ⌜ Beside n (now points) (now flags) ⌝ }
+    requires { ⌜ PointsFlagged n (now points) (now flags) ⌝ }
     ensures { λ r. ⌜ r ≡ anyOf (maps (now (s .entry)) n k) (now (points .entry)) ⌝ }
 {
     plan_collecting::collect_record(s, k, n, points, flags);
@@ -44,7 +44,7 @@ fn maps_some(s: &[u8], k: usize, n: u32, points: &[u32], flags: &mut [u8]) -> bo
 // Whether it maps a kept point at or above 0x10000: no other kept point is looked at.
 fn reaches_above(s: &[u8], k: usize, n: u32, kept: &[u32], flags: &mut [u8]) -> bool
     requires { ⌜ Placed (now s) k ⌝ }
-    requires { ⌜ Beside n (now kept) (now flags) ⌝ }
+    requires { ⌜ PointsFlagged n (now kept) (now flags) ⌝ }
     ensures { λ r. ⌜ r ≡ reachesAbove (now (s .entry)) n (now (kept .entry)) k ⌝ }
 {
     let split = lists_marks::count_near(kept, 0x10000, kept.len());
@@ -85,7 +85,7 @@ fn sibling_covers(
     flags: &mut [u8],
     others: &mut [u8],
 ) -> bool
-    requires { ⌜ Rooms (now s) m k n (now kept) (now flags) (now others) ⌝ }
+    requires { ⌜ CoveredRoom (now s) m k n (now kept) (now flags) (now others) ⌝ }
     ensures { λ r. ⌜ r ≡ siblingCovers (now (s .entry)) n (now (kept .entry)) k ⌝ }
 {
     let i = plan_sibling::first_sibling(s, m, k);
@@ -110,7 +110,7 @@ pub fn can_drop_format12(
     flags: &mut [u8],
     others: &mut [u8],
 ) -> bool
-    requires { ⌜ Rooms (now s) m k n (now kept) (now flags) (now others) ⌝ }
+    requires { ⌜ CoveredRoom (now s) m k n (now kept) (now flags) (now others) ⌝ }
     ensures { λ r. ⌜ r ≡ covered (now (s .entry)) n (now (kept .entry)) k ⌝ }
 {
     if source_records::leads_to_format(s, k, 12) {

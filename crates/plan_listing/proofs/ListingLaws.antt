@@ -23,11 +23,11 @@ use Rattle.lists_marks.proofs.MarksLaws.{flagged-none, kept-sets}
 use Rattle.lists_marks.proofs.LeadingLaws.{kept-front}
 use Rattle.format4_mapped.specs.Mapped4.{maps4}
 use Rattle.format12_mapped.specs.Mapped12.{maps12}
-use Rattle.plan_listing.specs.Listing.{mapsAs, maps, listed, codesOf, glyphsOf, Asked, Beside, Columns, Lists, Copied}
+use Rattle.plan_listing.specs.Listing.{mapsAs, maps, listed, codeColumn, glyphColumn, KindFlagged, PointsFlagged, ColumnsWithRoom, ListedCount, Copied}
 
 -- ---- by kind
 
-module _ (kind : Kind) (xs : List ℕ) (at n : ℕ) (ps fs : List ℕ) (a : Asked kind xs at n ps fs) where
+module _ (kind : Kind) (xs : List ℕ) (at n : ℕ) (ps fs : List ℕ) (a : KindFlagged kind xs at n ps fs) where
   pub asked4 : {l s len : ℕ} → Bytes xs → kind ≡ Format4 l s len → Room4 xs (record { at = at; segs = s; len = len }) × Flags ps fs
   asked4 b e = (room4 xs at b (sym (a .found) ∙ e), a .flagged)
 
@@ -50,7 +50,7 @@ module _ (kind : Kind) (xs : List ℕ) (at n : ℕ) (ps fs gs : List ℕ) where
 -- ---- by record
 
 module _ (xs : List ℕ) (k n : ℕ) (r : EncodingRecord) (kind : Kind) (ps fs : List ℕ) (q : r ≡ recordOf xs k) (h : kind ≡ kindAt xs (r .offset)) where
-  pub asked-record : Beside n ps fs → Asked kind xs (r .offset) n ps fs
+  pub asked-record : PointsFlagged n ps fs → KindFlagged kind xs (r .offset) n ps fs
   asked-record b = record { found = h; glyphs = b .glyphs; flagged = b .flagged }
 
   pub flags-record : (gs : List ℕ) → gs ≡ sets fs 0 (flagged (mapsAs kind xs (r .offset) n) ps) → gs ≡ sets fs 0 (flagged (maps xs n k) ps)
@@ -65,7 +65,7 @@ pub ruleset by-kind = (flags4, flags12, flags14, flags-none)
 
 -- the columns of the pairs that are listed: ms are the flags that say what the subtable maps, fs those before
 module _ (xs : List ℕ) (k n : ℕ) (cs gs fs ms tocs togs : List ℕ)
-    (b : Beside n cs fs) (q : ms ≡ sets fs 0 (flagged (maps xs n k) cs)) (c : Columns cs gs tocs togs) where
+    (b : PointsFlagged n cs fs) (q : ms ≡ sets fs 0 (flagged (maps xs n k) cs)) (c : ColumnsWithRoom cs gs tocs togs) where
   abbrev L : List Pair
   L = listed xs n cs gs k
 
@@ -79,25 +79,25 @@ module _ (xs : List ℕ) (k n : ℕ) (cs gs fs ms tocs togs : List ℕ)
   kept-even : length (kept ms cs) ≡ length (kept ms gs)
   kept-even = rw (kept-is cs (omega arith), kept-is gs (omega (arith, c .even))) (length-keep (maps xs n k) cs gs (c .even))
 
-  kept-codes : kept ms cs ≡ codesOf L
-  kept-codes = sym (firsts-pairs (kept ms cs) (kept ms gs) kept-even) ∙ ap codesOf kept-pairs
+  kept-codes : kept ms cs ≡ codeColumn L
+  kept-codes = sym (firsts-pairs (kept ms cs) (kept ms gs) kept-even) ∙ ap codeColumn kept-pairs
 
-  kept-glyphs : kept ms gs ≡ glyphsOf L
-  kept-glyphs = sym (seconds-pairs (kept ms cs) (kept ms gs) kept-even) ∙ ap glyphsOf kept-pairs
+  kept-glyphs : kept ms gs ≡ glyphColumn L
+  kept-glyphs = sym (seconds-pairs (kept ms cs) (kept ms gs) kept-even) ∙ ap glyphColumn kept-pairs
 
   pub listed-count : (m : ℕ) → m ≡ length (kept ms cs) → m ≡ length L
   listed-count m e = e ∙ ap length kept-codes ∙ length-map (λ (p : Pair). p .0) L
 
-  pub listed-codes : (out : List ℕ) → out ≡ sets tocs 0 (kept ms cs) → out ≡ sets tocs 0 (codesOf L)
+  pub listed-codes : (out : List ℕ) → out ≡ sets tocs 0 (kept ms cs) → out ≡ sets tocs 0 (codeColumn L)
   listed-codes out e = e ∙ ap (sets tocs 0) kept-codes
 
-  pub listed-glyphs : (out : List ℕ) → out ≡ sets togs 0 (kept ms gs) → out ≡ sets togs 0 (glyphsOf L)
+  pub listed-glyphs : (out : List ℕ) → out ≡ sets togs 0 (kept ms gs) → out ≡ sets togs 0 (glyphColumn L)
   listed-glyphs out e = e ∙ ap (sets togs 0) kept-glyphs
 
   flags-there : length cs ≤ length ms
   flags-there = rw (q, length-sets fs 0 (flagged (maps xs n k) cs)) (b .flagged .beside)
 
-  pub listed-front : (r : ℕ) → r ≡ frontOf ms (length cs) → r ≤ length cs → 0 < r → Lists L cs gs r r
+  pub listed-front : (r : ℕ) → r ≡ frontOf ms (length cs) → r ≤ length cs → 0 < r → ListedCount L cs gs r r
   listed-front r e w h =
       let there = flags-there in
       let x = kept-front ms cs (length cs) r refl there e h in
@@ -110,7 +110,7 @@ module _ (xs : List ℕ) (k n : ℕ) (cs gs fs ms tocs togs : List ℕ)
   pub front-copies : (r : ℕ) → 0 < r → Copied L r tocs togs tocs togs
   front-copies r h = record { codes = λ e. absurd (omega arith); glyphs = λ e. absurd (omega arith) }
 
-  pub listed-none : (m : ℕ) → m ≡ length (kept ms cs) → Lists L cs gs m 0
+  pub listed-none : (m : ℕ) → m ≡ length (kept ms cs) → ListedCount L cs gs m 0
   listed-none m e = record { counted = listed-count m e; first = record { within = omega arith; is = λ z. absurd (omega arith) } }
 
   pub listed-copies : (ncs ngs : List ℕ) → ncs ≡ sets tocs 0 (kept ms cs) → ngs ≡ sets togs 0 (kept ms gs) → Copied L 0 tocs togs ncs ngs

@@ -1,4 +1,4 @@
--- A job: what is lent but the output (docs/01-rules.md, "What is lent").
+-- A job: what is lent but the output (docs/RULES.md, "What is lent").
 use Prim.Native.Nat.{ℕ}
 use mathlib.Core.List.{List}
 use lib.ListN.{length}

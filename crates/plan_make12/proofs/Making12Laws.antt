@@ -6,12 +6,12 @@ use lib.ListN.{length, take}
 use lib.Seq.{sets}
 use Rattle.laws.specs.Lists.{Pair, pairs}
 use Rattle.format12.proofs.TableLaws.{length-table}
-use Rattle.format12.specs.declared.Size.{Size as Size12}
-use Rattle.format12.specs.Format12.{format12, groups, sizeOf as sizeOf12, Columns as Columns12, Room as Room12}
+use Rattle.format12.specs.declared.Size12.{Size12}
+use Rattle.format12.specs.Format12.{format12, groups, sizeOf12, Columns, GroupsRoom}
 use Rattle.plan.specs.Making.{Front}
 use Rattle.plan.proofs.MakingLaws.{front-even, front-few, Holds}
 
-pub front12 : (m : ℕ) (cs gs : List ℕ) → Front m cs gs → Columns12 (take m cs) (take m gs)
+pub front12 : (m : ℕ) (cs gs : List ℕ) → Front m cs gs → Columns (take m cs) (take m gs)
 front12 m cs gs f = record { even = sym (front-even m cs gs f); few = front-few m cs gs f }
 
 module _ {m : ℕ} {cs gs : List ℕ} {L : List Pair} (h : Holds m cs gs L) where
@@ -26,7 +26,7 @@ module _ {m : ℕ} {cs gs : List ℕ} {L : List Pair} (h : Holds m cs gs L) wher
 
 pub ruleset made12 = (is-size12, asks-room12, wrote12)
 
-pub groups-room : (L : List Pair) (language at l : ℕ) → at + length (format12 language L) ≤ l → (r : Size12) → r ≡ sizeOf12 L → Room12 L (r .groups) at l
+pub groups-room : (L : List Pair) (language at l : ℕ) → at + length (format12 language L) ≤ l → (r : Size12) → r ≡ sizeOf12 L → GroupsRoom L (r .groups) at l
 groups-room L language at l f r h =
     let g : r .groups ≡ length (groups L) = ap (λ (z : Size12). z .groups) h in
     record { found = g; fits = rw g (rw (length-table 12 language (groups L)) at f) }

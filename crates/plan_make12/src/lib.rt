@@ -5,12 +5,12 @@ ghost use lib.ListN.{length, take};
 ghost use lib.Seq.{sets};
 ghost use Rattle.laws.specs.Lists.{pairs};
 ghost use Rattle.plan_listing.specs.Listing.{listed};
-ghost use Rattle.format12.specs.Format12.{format12, sizeOf as sizeOf12, Room as Room12};
-ghost use Rattle.plan.specs.Making.{Pairs, Fronts};
+ghost use Rattle.format12.specs.Format12.{format12, sizeOf12, GroupsRoom};
+ghost use Rattle.plan.specs.Making.{PairsRoom, Fronts};
 ghost use Rattle.plan.specs.Making.{Front};
 
 // The size of the format 12 subtable of the first m pairs.
-fn size12_of(codes: &[u32], glyphs: &[u16], m: usize) -> format12::Size
+fn size12_of(codes: &[u32], glyphs: &[u16], m: usize) -> format12::Size12
     requires { ⌜ Front m (now codes) (now glyphs) ⌝ }
     ensures { λ r. ⌜ r ≡ sizeOf12 (pairs (take m (now (codes .entry))) (take m (now (glyphs .entry)))) ⌝ }
 {
@@ -19,7 +19,7 @@ fn size12_of(codes: &[u32], glyphs: &[u16], m: usize) -> format12::Size
 
 // The size of a format 12 subtable, and how many pairs at the front are all that it is made of; 0 where they are not the first ones.
 pub struct Sized12 {
-    pub size: format12::Size,
+    pub size: format12::Size12,
     pub front: usize,
 }
 
@@ -34,7 +34,7 @@ pub fn size12(
     tocodes: &mut [u32],
     toglyphs: &mut [u16],
 ) -> Sized12
-    requires { ⌜ Pairs (now s) k n (now codes) (now glyphs) (now flags) (now tocodes) (now toglyphs) ⌝ }
+    requires { ⌜ PairsRoom (now s) k n (now codes) (now glyphs) (now flags) (now tocodes) (now toglyphs) ⌝ }
     ensures { λ r. ⌜ r .size ≡ sizeOf12 (listed (now (s .entry)) n (now (codes .entry)) (now (glyphs .entry)) k) ⌝ }
     ensures { λ r. ⌜ Fronts (now (s .entry)) n (now (codes .entry)) (now (glyphs .entry)) k (r .front) ⌝ }
 {
@@ -59,7 +59,7 @@ fn write12_of(
     groups: usize,
 )
     requires { ⌜ Front m (now codes) (now glyphs) ⌝ }
-    requires { ⌜ Room12 (pairs (take m (now codes)) (take m (now glyphs))) groups at (length (now out)) ⌝ }
+    requires { ⌜ GroupsRoom (pairs (take m (now codes)) (take m (now glyphs))) groups at (length (now out)) ⌝ }
     ensures { λ _. ⌜ now (out .exit) ≡ sets (now (out .entry)) at (format12 language (pairs (take m (now (codes .entry))) (take m (now (glyphs .entry))))) ⌝ }
 {
     format12_writer::write_format12(out, at, language, &codes[..m], &glyphs[..m], groups);
@@ -90,7 +90,7 @@ pub fn write12(
     toglyphs: &mut [u16],
     front: usize,
 )
-    requires { ⌜ Pairs (now s) k n (now codes) (now glyphs) (now flags) (now tocodes) (now toglyphs) ⌝ }
+    requires { ⌜ PairsRoom (now s) k n (now codes) (now glyphs) (now flags) (now tocodes) (now toglyphs) ⌝ }
     requires { ⌜ Fronts (now s) n (now codes) (now glyphs) k front ⌝ }
     requires { ⌜ at + length (format12 language (listed (now s) n (now codes) (now glyphs) k)) ≤ length (now out) ⌝ }
     ensures { λ _. ⌜ now (out .exit) ≡ sets (now (out .entry)) at (format12 language (listed (now (s .entry)) n (now (codes .entry)) (now (glyphs .entry)) k)) ⌝ }

@@ -6,17 +6,17 @@ ghost use lib.ListN.{length, take};
 ghost use lib.Seq.{sets};
 ghost use Rattle.laws.specs.Lists.{pairs};
 ghost use Rattle.plan_listing.specs.Listing.{listed};
-ghost use Rattle.format4.specs.declared.Size.the-variants.{Fits};
+ghost use Rattle.format4.specs.declared.Size4.the-variants.{Fits};
 ghost use Rattle.format4.specs.Format4.{format4};
-ghost use Rattle.format4.specs.Size.{sizeOf as sizeOf4, lengthOf as lengthOf4, Columns as Columns4};
-ghost use Rattle.plan.specs.Making.{Pairs, Leads, Fronts};
+ghost use Rattle.format4.specs.Size.{sizeOf4, lengthOf4, Columns16};
+ghost use Rattle.plan.specs.Making.{PairsRoom, Leads, Fronts};
 ghost use Rattle.plan.specs.Making.{Front};
 ghost use Rattle.plan_make4.specs.Fits4.{Fits4};
 
 // The size of the format 4 subtable of the first m pairs.
-fn size4_of(codes: &[u32], glyphs: &[u16], m: usize) -> format4::Size
+fn size4_of(codes: &[u32], glyphs: &[u16], m: usize) -> format4::Size4
     requires { ⌜ Front m (now codes) (now glyphs) ⌝ }
-    requires { ⌜ Columns4 (take m (now codes)) (take m (now glyphs)) ⌝ }
+    requires { ⌜ Columns16 (take m (now codes)) (take m (now glyphs)) ⌝ }
     ensures { λ r. ⌜ r ≡ sizeOf4 (pairs (take m (now (codes .entry))) (take m (now (glyphs .entry)))) ⌝ }
 {
     format4_size::format4_size(&codes[..m], &glyphs[..m])
@@ -24,7 +24,7 @@ fn size4_of(codes: &[u32], glyphs: &[u16], m: usize) -> format4::Size
 
 // The size of a format 4 subtable, and how many pairs at the front are all that it is made of; 0 where they are not the first ones.
 pub struct Sized4 {
-    pub size: format4::Size,
+    pub size: format4::Size4,
     pub front: usize,
 }
 
@@ -39,7 +39,7 @@ pub fn size4(
     tocodes: &mut [u32],
     toglyphs: &mut [u16],
 ) -> Sized4
-    requires { ⌜ Pairs (now s) k n (now codes) (now glyphs) (now flags) (now tocodes) (now toglyphs) ⌝ }
+    requires { ⌜ PairsRoom (now s) k n (now codes) (now glyphs) (now flags) (now tocodes) (now toglyphs) ⌝ }
     requires { ⌜ Leads (now s) k 4 ⌝ }
     ensures { λ r. ⌜ r .size ≡ sizeOf4 (listed (now (s .entry)) n (now (codes .entry)) (now (glyphs .entry)) k) ⌝ }
     ensures { λ r. ⌜ Fronts (now (s .entry)) n (now (codes .entry)) (now (glyphs .entry)) k (r .front) ⌝ }
@@ -65,7 +65,7 @@ fn write4_of(
     counter: RangeCounter,
 )
     requires { ⌜ Front m (now codes) (now glyphs) ⌝ }
-    requires { ⌜ Columns4 (take m (now codes)) (take m (now glyphs)) ⌝ }
+    requires { ⌜ Columns16 (take m (now codes)) (take m (now glyphs)) ⌝ }
     requires { ⌜ sizeOf4 (pairs (take m (now codes)) (take m (now glyphs))) ≡ Fits counter ⌝ }
     requires { ⌜ at + lengthOf4 counter ≤ length (now out) ⌝ }
     ensures { λ _. ⌜ now (out .exit) ≡ sets (now (out .entry)) at (format4 language (pairs (take m (now (codes .entry))) (take m (now (glyphs .entry))))) ⌝ }
@@ -76,14 +76,14 @@ fn write4_of(
 // Measures and writes the format 4 subtable of the first m pairs.
 fn write4_first(out: &mut [u8], at: usize, language: u32, codes: &[u32], glyphs: &[u16], m: usize)
     requires { ⌜ Front m (now codes) (now glyphs) ⌝ }
-    requires { ⌜ Columns4 (take m (now codes)) (take m (now glyphs)) ⌝ }
+    requires { ⌜ Columns16 (take m (now codes)) (take m (now glyphs)) ⌝ }
     requires { ⌜ Fits4 (pairs (take m (now codes)) (take m (now glyphs))) at (length (now out)) ⌝ }
     ensures { λ _. ⌜ now (out .exit) ≡ sets (now (out .entry)) at (format4 language (pairs (take m (now (codes .entry))) (take m (now (glyphs .entry))))) ⌝ }
 {
     match size4_of(codes, glyphs, m) {
-        format4::Size::Fits(counter) => { write4_of(out, at, language, codes, glyphs, m, counter) }
-        format4::Size::Empty => {}
-        format4::Size::TooLong => {}
+        format4::Size4::Fits(counter) => { write4_of(out, at, language, codes, glyphs, m, counter) }
+        format4::Size4::Empty => {}
+        format4::Size4::TooLong => {}
     }
 }
 
@@ -102,7 +102,7 @@ pub fn write4(
     toglyphs: &mut [u16],
     front: usize,
 )
-    requires { ⌜ Pairs (now s) k n (now codes) (now glyphs) (now flags) (now tocodes) (now toglyphs) ⌝ }
+    requires { ⌜ PairsRoom (now s) k n (now codes) (now glyphs) (now flags) (now tocodes) (now toglyphs) ⌝ }
     requires { ⌜ Fronts (now s) n (now codes) (now glyphs) k front ⌝ }
     requires { ⌜ Leads (now s) k 4 ⌝ }
     requires { ⌜ Fits4 (listed (now s) n (now codes) (now glyphs) k) at (length (now out)) ⌝ }

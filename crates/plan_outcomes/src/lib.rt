@@ -9,6 +9,7 @@ ghost use Rattle.plan.specs.Outcomes.{isMade, isBad, isWritten, makerOf, serves
 ghost use Rattle.plan.specs.Sizes.{madeSize, Short, BothPlaced};
 ghost use Rattle.plan.specs.Twins.{saysCovered, isCovered, saysNothing, cameToNothing, isTwin, twin, isSpent, spent};
 ghost use Rattle.plan.specs.Notes.{whyNoted, noted, toldBy, tells, outcomesIn};
+ghost use Rattle.number.specs.Limits.{recordsMax};
 
 // ---- what an outcome says
 
@@ -191,7 +192,7 @@ fn serves(s: &[u8], notes: &[usize], k: usize, r: usize) -> bool
 // The first earlier record whose table serves record k; k where there is none.
 pub fn server(s: &[u8], notes: &[usize], k: usize) -> usize
     requires { ⌜ Placed (now s) k ⌝ }
-    requires { ⌜ (k < 64) × (k ≤ length (now notes)) ⌝ }
+    requires { ⌜ (k < recordsMax) × (k ≤ length (now notes)) ⌝ }
     ensures { λ r. ⌜ r ≡ server (now (s .entry)) (outcomesIn k (now (notes .entry))) k ⌝ }
 {
     let mut r = 0;
@@ -219,7 +220,7 @@ fn is_twin(s: &[u8], k: usize, r: usize) -> bool
 // The first earlier record of record k's pair and offset; k where there is none.
 pub fn twin(s: &[u8], k: usize) -> usize
     requires { ⌜ Placed (now s) k ⌝ }
-    requires { ⌜ k < 64 ⌝ }
+    requires { ⌜ k < recordsMax ⌝ }
     ensures { λ r. ⌜ r ≡ twin (now (s .entry)) k ⌝ }
 {
     let mut r = 0;
@@ -247,7 +248,7 @@ fn is_spent(s: &[u8], notes: &[usize], k: usize, r: usize) -> bool
 // The first such record before k; k where there is none.
 pub fn spent(s: &[u8], notes: &[usize], k: usize) -> usize
     requires { ⌜ Placed (now s) k ⌝ }
-    requires { ⌜ (k < 64) × (k ≤ length (now notes)) ⌝ }
+    requires { ⌜ (k < recordsMax) × (k ≤ length (now notes)) ⌝ }
     ensures { λ r. ⌜ r ≡ spent (now (s .entry)) (outcomesIn k (now (notes .entry))) k ⌝ }
 {
     let mut r = 0;

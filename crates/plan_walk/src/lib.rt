@@ -10,46 +10,47 @@ ghost use lib.ListN.{length};
 ghost use Rattle.number.specs.BigEndian.{be};
 ghost use Rattle.source_header.specs.Header.{recordCount};
 ghost use Rattle.source_records.specs.Records.{retained};
-ghost use Rattle.format4.specs.Size.{sizeOf as sizeOf4};
-ghost use Rattle.format12.specs.Format12.{sizeOf as sizeOf12};
-ghost use Rattle.format14.specs.Selectors.{given};
+ghost use Rattle.format4.specs.Size.{sizeOf4};
+ghost use Rattle.format12.specs.Format12.{sizeOf12};
+ghost use Rattle.format14.specs.Selectors.{job14};
 ghost use Rattle.format14.specs.ByNumber.{slot, Readable};
 ghost use Rattle.format14.specs.Ends.{Ends};
-ghost use Rattle.format14.specs.Format14.{lengthIn, outcome as outcome14};
+ghost use Rattle.format14.specs.Format14.{lengthIn, outcome14};
 ghost use Rattle.plan_listing.specs.Job.{job};
 ghost use Rattle.plan_listing.specs.Listing.{listed};
 ghost use Rattle.plan.specs.declared.Outcome.the-variants.{Made};
 ghost use Rattle.plan.specs.Sizes.{Short, Small};
 ghost use Rattle.plan.specs.Covered.{covered};
-ghost use Rattle.plan.specs.CoveredFlags.{Rooms};
+ghost use Rattle.plan.specs.CoveredFlags.{CoveredRoom};
 ghost use Rattle.plan.specs.Fresh.{by4, by14, fresh};
-ghost use Rattle.plan.specs.Making.{Pairs, Leads, Short4, Ready};
+ghost use Rattle.plan.specs.Making.{PairsRoom, Leads, Short4, Ready};
 ghost use Rattle.plan.specs.Plan.{retainedOutcome, outcomeOf, plan};
 ghost use Rattle.plan.specs.Prepared.{Prepared};
 ghost use Rattle.plan.specs.Notes.{outcomesIn, rowIn, frontsIn, endsIn, notesMax, Fronted, Endings, Notebook, Leaves, Turned, Stays};
 ghost use Rattle.plan.specs.Earlier.{Earlier, Tells};
+ghost use Rattle.number.specs.Limits.{recordsMax};
 
 // ---- a record that no earlier table serves
 
-fn of_size4(size: format4::Size) -> Outcome
+fn of_size4(size: format4::Size4) -> Outcome
     requires { ⌜ Short4 size ⌝ }
     ensures { λ r. ⌜ (r ≡ by4 size) × Short r ⌝ }
 {
     match size {
-        format4::Size::Empty => Outcome::LeftOut(Why::Empty),
-        format4::Size::TooLong => Outcome::LeftOut(Why::TooLong),
-        format4::Size::Fits(n) => Outcome::Made(16 + 8 * n.segments + 2 * n.glyphs),
+        format4::Size4::Empty => Outcome::LeftOut(Why::Empty),
+        format4::Size4::TooLong => Outcome::LeftOut(Why::TooLong),
+        format4::Size4::Fits(n) => Outcome::Made(16 + 8 * n.segments + 2 * n.glyphs),
     }
 }
 
-fn of_outcome14(outcome: format14::Outcome) -> Outcome
+fn of_outcome14(outcome: format14::Outcome14) -> Outcome
     requires { ⌜ lengthIn outcome < 4294967296 ⌝ }
     ensures { λ r. ⌜ (r ≡ by14 outcome) × Short r ⌝ }
 {
     match outcome {
-        format14::Outcome::Refused8 => Outcome::BadMapping,
-        format14::Outcome::Empty => Outcome::LeftOut(Why::Empty),
-        format14::Outcome::Length(n) => Outcome::Made(n),
+        format14::Outcome14::Refused8 => Outcome::BadMapping,
+        format14::Outcome14::Empty => Outcome::LeftOut(Why::Empty),
+        format14::Outcome14::Length(n) => Outcome::Made(n),
     }
 }
 
@@ -64,9 +65,9 @@ fn fresh4(
     toglyphs: &mut [u16],
     notes: &mut [usize],
 ) -> Outcome
-    requires { ⌜ Pairs (now s) k n (now codes) (now glyphs) (now flags) (now tocodes) (now toglyphs) ⌝ }
+    requires { ⌜ PairsRoom (now s) k n (now codes) (now glyphs) (now flags) (now tocodes) (now toglyphs) ⌝ }
     requires { ⌜ Leads (now s) k 4 ⌝ }
-    requires { ⌜ (k < 64) × Fronted (now s) n (now codes) (now glyphs) (now notes) ⌝ }
+    requires { ⌜ (k < recordsMax) × Fronted (now s) n (now codes) (now glyphs) (now notes) ⌝ }
     ensures { λ r. ⌜ (r ≡ by4 (sizeOf4 (listed (now (s .entry)) n (now (codes .entry)) (now (glyphs .entry)) k))) × Short r ⌝ }
     ensures { λ _. ⌜ Fronted (now (s .entry)) n (now (codes .entry)) (now (glyphs .entry)) (now (notes .exit)) ⌝ }
     ensures { λ _. ⌜ (rowIn (now (notes .exit)) ≡ rowIn (now (notes .entry))) × (endsIn (now (notes .exit)) ≡ endsIn (now (notes .entry))) ⌝ }
@@ -88,8 +89,8 @@ fn fresh12(
     toglyphs: &mut [u16],
     notes: &mut [usize],
 ) -> Outcome
-    requires { ⌜ Pairs (now s) k n (now codes) (now glyphs) (now flags) (now tocodes) (now toglyphs) ⌝ }
-    requires { ⌜ (k < 64) × Fronted (now s) n (now codes) (now glyphs) (now notes) ⌝ }
+    requires { ⌜ PairsRoom (now s) k n (now codes) (now glyphs) (now flags) (now tocodes) (now toglyphs) ⌝ }
+    requires { ⌜ (k < recordsMax) × Fronted (now s) n (now codes) (now glyphs) (now notes) ⌝ }
     ensures { λ r. ⌜ (r ≡ Made (sizeOf12 (listed (now (s .entry)) n (now (codes .entry)) (now (glyphs .entry)) k) .bytes)) × Short r ⌝ }
     ensures { λ _. ⌜ Fronted (now (s .entry)) n (now (codes .entry)) (now (glyphs .entry)) (now (notes .exit)) ⌝ }
     ensures { λ _. ⌜ (rowIn (now (notes .exit)) ≡ rowIn (now (notes .entry))) × (endsIn (now (notes .exit)) ≡ endsIn (now (notes .entry))) ⌝ }
@@ -113,8 +114,8 @@ fn fresh14(
     requires { ⌜ Readable (now s) (subtable .at) (subtable .len) (now kept) (now requested) ⌝ }
     requires { ⌜ (length (now kept) ≤ length (now flags)) × (length (now kept) ≤ length (now others)) ⌝ }
     requires { ⌜ notesMax ≤ length (now notes) ⌝ }
-    ensures { λ r. ⌜ (r ≡ by14 (outcome14 (given (now (s .entry)) (subtable .at) (subtable .len) (now (kept .entry)) (now (map .entry)) (now (requested .entry))))) × Short r ⌝ }
-    ensures { λ _. ⌜ Ends (slot (given (now (s .entry)) (subtable .at) (subtable .len) (now (kept .entry)) (now (map .entry)) (now (requested .entry)))) (2 * be 4 (now (s .entry)) (subtable .at + 6)) (endsIn (now (notes .exit))) ⌝ }
+    ensures { λ r. ⌜ (r ≡ by14 (outcome14 (job14 (now (s .entry)) (subtable .at) (subtable .len) (now (kept .entry)) (now (map .entry)) (now (requested .entry))))) × Short r ⌝ }
+    ensures { λ _. ⌜ Ends (slot (job14 (now (s .entry)) (subtable .at) (subtable .len) (now (kept .entry)) (now (map .entry)) (now (requested .entry)))) (2 * be 4 (now (s .entry)) (subtable .at + 6)) (endsIn (now (notes .exit))) ⌝ }
     ensures { λ _. ⌜ (rowIn (now (notes .exit)) ≡ rowIn (now (notes .entry))) × (frontsIn (now (notes .exit)) ≡ frontsIn (now (notes .entry))) ⌝ }
 {
     let ends = plan::ENDS;
@@ -222,7 +223,7 @@ fn is_dropped(
     others: &mut [u8],
     notes: &[usize],
 ) -> bool
-    requires { ⌜ Rooms (now s) (recordCount (now s)) k n (now kept) (now flags) (now others) ⌝ }
+    requires { ⌜ CoveredRoom (now s) (recordCount (now s)) k n (now kept) (now flags) (now others) ⌝ }
     requires { ⌜ Tells (now s) n (now kept) (outcomesIn k (now notes)) k ⌝ }
     requires { ⌜ k ≤ length (now notes) ⌝ }
     ensures { λ t. ⌜ t ≡ covered (now (s .entry)) n (now (kept .entry)) k ⌝ }
@@ -251,7 +252,7 @@ fn retained_outcome(
 ) -> Outcome
     requires { ⌜ (let j = job (now s) (now codes) (now glyphs) (now kept) (now map) (now requested) in
         Earlier j (outcomesIn k (now notes)) k × Ready j k (now flags) (now tocodes) (now toglyphs) × Notebook j k (now others) (now notes)) ⌝ }
-    requires { ⌜ Rooms (now s) (recordCount (now s)) k (length (now map)) (now kept) (now flags) (now others) ⌝ }
+    requires { ⌜ CoveredRoom (now s) (recordCount (now s)) k (length (now map)) (now kept) (now flags) (now others) ⌝ }
     requires { ⌜ retained (now s) k ≡ true ⌝ }
     ensures { λ r. ⌜ (let j = job (now (s .entry)) (now (codes .entry)) (now (glyphs .entry)) (now (kept .entry)) (now (map .entry)) (now (requested .entry)) in
         ((r ≡ retainedOutcome j (outcomesIn k (now (notes .entry))) k) × Short r) × Leaves j (now (notes .entry)) (now (notes .exit))
@@ -298,7 +299,7 @@ fn outcome_of(
 ) -> Outcome
     requires { ⌜ (let j = job (now s) (now codes) (now glyphs) (now kept) (now map) (now requested) in
         Earlier j (outcomesIn k (now notes)) k × Ready j k (now flags) (now tocodes) (now toglyphs) × Notebook j k (now others) (now notes)) ⌝ }
-    requires { ⌜ Rooms (now s) (recordCount (now s)) k (length (now map)) (now kept) (now flags) (now others) ⌝ }
+    requires { ⌜ CoveredRoom (now s) (recordCount (now s)) k (length (now map)) (now kept) (now flags) (now others) ⌝ }
     ensures { λ r. ⌜ (let j = job (now (s .entry)) (now (codes .entry)) (now (glyphs .entry)) (now (kept .entry)) (now (map .entry)) (now (requested .entry)) in
         ((r ≡ outcomeOf j (outcomesIn k (now (notes .entry))) k) × Short r) × Leaves j (now (notes .entry)) (now (notes .exit))
         × Stays j (outcomesIn k (now (notes .entry))) k r (now (notes .entry)) (now (notes .exit))) ⌝ }

@@ -15,8 +15,8 @@ use Rattle.plan.specs.Outcomes.{isMade, makerOf}
 use Rattle.plan.specs.Sizes.{madeSize}
 use Rattle.plan.specs.Fresh.{tableOf}
 use Rattle.plan.proofs.SizeLaws.{made-size, unmade-size}
-use Rattle.result.specs.Result.{countFrom, written, recordBytes, recordsFrom, tablesFrom, resultOf, offsetOf, tablesStart}
-use Rattle.result.specs.Layout.{sizesFrom, resultLength, placeOf}
+use Rattle.result.specs.Result.{countFrom, writtenCount, recordBytes, recordsFrom, tablesFrom, resultOf, newOffset, tablesStart}
+use Rattle.result.specs.Layout.{sizesFrom, resultLength, placeBySizes}
 use Rattle.plan.specs.Outcomes.{isWritten, at}
 use Rattle.laws.specs.Choice.{pick}
 
@@ -57,21 +57,21 @@ module _ (j : Job) (os : List Outcome) (made : (k n : ℕ) → at os k ≡ Made 
       omega (arith, length-append (tablesFrom j os n (k + 1)) (pick (isMade (at os k)) (tableOf j k) []), own-length k, length-tables n (k + 1))
 
   -- a table's offset, by the lengths that the plan holds
-  pub offset-place : (k : ℕ) → offsetOf j os k ≡ placeOf os k
-  unfolding offsetOf placeOf
+  pub offset-place : (k : ℕ) → newOffset j os k ≡ placeBySizes os k
+  unfolding newOffset placeBySizes
   offset-place k = ap (λ (n : ℕ). tablesStart os + n) (length-tables (length os - (k + 1)) (k + 1))
 
   pub length-result : length (resultOf j os) ≡ resultLength os
   unfolding resultOf
   length-result =
-      let records = recordsFrom (offsetOf j os) (j .source) os (length os) 0 in
+      let records = recordsFrom (newOffset j os) (j .source) os (length os) 0 in
       let tables = tablesFrom j os (length os) 0 in
       rw (
-        length-append (enc 2 0) (enc 2 (written os) ++ (records ++ tables)),
-        length-append (enc 2 (written os)) (records ++ tables),
+        length-append (enc 2 0) (enc 2 (writtenCount os) ++ (records ++ tables)),
+        length-append (enc 2 (writtenCount os)) (records ++ tables),
         length-append records tables,
         length-enc 2 0,
-        length-enc 2 (written os),
-        length-records (offsetOf j os) (j .source) os (length os) 0,
+        length-enc 2 (writtenCount os),
+        length-records (newOffset j os) (j .source) os (length os) 0,
         length-tables (length os) 0,
       ) (omega arith)

@@ -16,9 +16,9 @@ use Rattle.laws.proofs.ChoiceLaws.{pick-same, by-test}
 use Rattle.source.specs.Kind.{formatOf}
 use Rattle.source_records.specs.Records.{leadsTo}
 use Rattle.plan_listing.specs.Job.{Job, glyphCount}
-use Rattle.plan_listing.specs.Listing.{maps, listed, codesOf}
+use Rattle.plan_listing.specs.Listing.{maps, listed, codeColumn}
 use Rattle.plan.proofs.BelowLaws.{listed-below}
-use Rattle.format4_lookup.specs.CutLookup.{Fits, Listed}
+use Rattle.format4_lookup.specs.CutLookup.{Fits16, Listed16}
 use Rattle.format12_lookup.specs.Lookup.{Above, above-none, above-more}
 use Rattle.format12_lookup.proofs.LookupLaws.{above-pairs}
 use Rattle.plan.specs.Fresh.{listedOf}
@@ -64,13 +64,13 @@ above-select q {lo} (above-more {p} {ps} a b c r) =
     (λ e. rw e (above-more a b c rest))
     (λ e. rw e (above-from {from = suc (p .0)} (omega arith) rest))
 
-rising-above : {lo : ℕ} {ps : List Pair} → Above lo ps → (i : ℕ) → suc i < length (codesOf ps) → getD (codesOf ps) i 0 < getD (codesOf ps) (suc i) 0
+rising-above : {lo : ℕ} {ps : List Pair} → Above lo ps → (i : ℕ) → suc i < length (codeColumn ps) → getD (codeColumn ps) i 0 < getD (codeColumn ps) (suc i) 0
 rising-above above-none i h = absurd (omega arith)
 rising-above (above-more a b c above-none) i h = absurd (omega arith)
 rising-above (above-more a b c (above-more d e f r)) zero h = d
 rising-above (above-more a b c (above-more d e f r)) (suc i) h = rising-above (above-more d e f r) i (omega arith)
 
-fits-above : {lo : ℕ} {ps : List Pair} → Above lo ps → ((i : ℕ) → getD (codesOf ps) i 0 < 65536) → Each Fits ps
+fits-above : {lo : ℕ} {ps : List Pair} → Above lo ps → ((i : ℕ) → getD (codeColumn ps) i 0 < 65536) → Each Fits16 ps
 fits-above above-none low = tt
 fits-above (above-more a b c r) low = ((low 0, omega arith), fits-above r (λ i. low (suc i)))
 
@@ -83,7 +83,7 @@ module _ {j : Job} (l : Lent j) (k : ℕ) where
       (above-pairs 0 (j .codes) (j .glyphs) (l .codes-rise) (λ h. omega arith) (l .codes-low) (λ i. let g = l .glyphs-low i in omega arith))
 
   -- what format 4 asks for
-  pub fits-listed : formatOf (leadsTo (j .source) k) ≡ 4 → Listed (listedOf j k)
+  pub fits-listed : formatOf (leadsTo (j .source) k) ≡ 4 → Listed16 (listedOf j k)
   fits-listed e = record {
     rising = record { climbs = rising-above above-listed };
     fits = fits-above above-listed (listed-below (j .source) (glyphCount j) (j .codes) (j .glyphs) k (l .bytes) (record { is = e }));

@@ -19,25 +19,25 @@ use Rattle.source.proofs.KindLaws.{tells4, tells12}
 use Rattle.source_records.specs.Records.{leadsTo}
 use Rattle.plan_listing.specs.Job.{Job}
 use Rattle.format4.specs.declared.RangeCounter.{RangeCounter}
-use Rattle.format4.specs.declared.Size.{Size}
-use Rattle.format4.specs.declared.Size.the-variants.{Empty, TooLong, Fits}
+use Rattle.format4.specs.declared.Size4.{Size4}
+use Rattle.format4.specs.declared.Size4.the-variants.{Empty, TooLong, Fits}
 use Rattle.format4.specs.Format4.{format4}
-use Rattle.format4.specs.Size.{sizeOf as sizeOf4, countOf, lengthOf as lengthOf4}
+use Rattle.format4.specs.Size.{sizeOf4, countOf, lengthOf4}
 use Rattle.format4.proofs.Format4Laws.{length-format4}
-use Rattle.format4_lookup.specs.Lookup.{Written}
+use Rattle.format4_lookup.specs.Lookup.{FieldsFit}
 use Rattle.format4_lookup.proofs.Format4KindLaws.{fits-written}
 use Rattle.format12.specs.Format12.{groups}
 use Rattle.format12.proofs.TableLaws.{length-table}
-use Rattle.format14.specs.declared.Outcome.{Outcome as Outcome14}
-use Rattle.format14.specs.declared.Outcome.the-variants.{Refused8, Empty as Empty14, Length}
-use Rattle.format14.specs.Format14.{outcome as outcome14}
+use Rattle.format14.specs.declared.Outcome14.{Outcome14}
+use Rattle.format14.specs.declared.Outcome14.the-variants.{Refused8, Empty as Empty14, Length}
+use Rattle.format14.specs.Format14.{outcome14}
 use Rattle.format14.proofs.WholeLaws.{outcome-says}
 use Rattle.plan.specs.declared.Outcome.{Outcome}
 use Rattle.plan.specs.declared.Why.the-variants.{Skipped}
 use Rattle.plan.specs.declared.Outcome.the-variants.{LeftOut, Made}
 use Rattle.plan.specs.Outcomes.{isMade}
 use Rattle.plan.specs.Sizes.{madeSize}
-use Rattle.plan.specs.Fresh.{listedOf, givenOf, tableAs, tableOf, by4, by14, freshAs, fresh}
+use Rattle.plan.specs.Fresh.{listedOf, job14Of, tableAs, tableOf, by4, by14, freshAs, fresh}
 
 -- another outcome than a made table
 pub not-made : (P : Type 0) (o : Outcome) (n : ℕ) → isMade o ≡ false → o ≡ Made n → P
@@ -53,7 +53,7 @@ record Made4 (language : ℕ) (ps : List Pair) (n : ℕ) : Type 0 where
   some : Filled ps
 
 module _ (language : ℕ) (ps : List Pair) where
-  abbrev Told : Size → Type 0
+  abbrev Told : Size4 → Type 0
   Told Empty = Unit {0}
   Told TooLong = Unit {0}
   Told (Fits c) = (lengthOf4 c ≡ length (format4 language ps)) × Filled ps
@@ -65,7 +65,7 @@ sized language (p ∷ ps) =
     by-pick (Told language (p ∷ ps)) (leb (lengthOf4 (countOf (p ∷ ps))) 65535) (Fits (countOf (p ∷ ps))) TooLong
     (λ e. (sym (length-format4 language (p ∷ ps)), tt)) (λ e. tt)
 
-made4 : (language : ℕ) (ps : List Pair) (n : ℕ) (size : Size) → sizeOf4 ps ≡ size → by4 size ≡ Made n → Made4 language ps n
+made4 : (language : ℕ) (ps : List Pair) (n : ℕ) (size : Size4) → sizeOf4 ps ≡ size → by4 size ≡ Made n → Made4 language ps n
 made4 language ps n Empty q e = not-made (Made4 language ps n) (by4 Empty) n refl e
 made4 language ps n TooLong q e = not-made (Made4 language ps n) (by4 TooLong) n refl e
 made4 language ps n (Fits c) q e =
@@ -93,7 +93,7 @@ module _ (j : Job) (k n : ℕ) (made : fresh j k ≡ Made n) where
       go : (kind : Kind) → freshAs kind j k ≡ Made n → n ≡ length (tableAs kind j k)
       go (Format4 language s len) e = made4 language (listedOf j k) n (sizeOf4 (listedOf j k)) refl e .long
       go (Format12 language g len) e = sym (ap madeSize e) ∙ sym (length-table 12 language (groups (listedOf j k)))
-      go (Format14 r len) e = outcome-says (givenOf j k len) n (made14 (outcome14 (givenOf j k len)) n e)
+      go (Format14 r len) e = outcome-says (job14Of j k len) n (made14 (outcome14 (job14Of j k len)) n e)
       go Unreadable e = not-made (n ≡ 0) (LeftOut Skipped) n refl e
 
   -- the record leads to a readable subtable
@@ -124,7 +124,7 @@ module _ (j : Job) (k n : ℕ) (made : fresh j k ≡ Made n) where
     made-some4 = is4 .some
 
     -- its length and its language fit their fields
-    pub made-written4 : Bytes (j .source) → Written language (listedOf j k)
+    pub made-written4 : Bytes (j .source) → FieldsFit language (listedOf j k)
     unfolding leadsTo
     made-written4 b =
         fits-written language (listedOf j k) (is4 .is) (rw (tells4 (j .source) (offsetOf (j .source) k) e .language) (be-lt 2 (j .source) (offsetOf (j .source) k + 4) b))

@@ -11,7 +11,7 @@ use Rattle.laws.proofs.StandsLaws.{Stands, stands-append, stands-whole, stands-
 use Rattle.number.specs.BigEndian.{enc, Bytes}
 use Rattle.number.proofs.BigEndianLaws.{be-lt, length-enc}
 use Rattle.number.specs.Limits.{recordsMax}
-use Rattle.source_header.specs.Header.{platformOf, encodingOf, offsetOf as offsetAt}
+use Rattle.source_header.specs.Header.{platformOf, encodingOf, offsetOf}
 use Rattle.source_header.proofs.HeaderLaws.{Accepted}
 use Rattle.number.proofs.StandsLaws.{be-stands-enc}
 use Rattle.source.specs.Kind.{formatOf}
@@ -24,8 +24,8 @@ use Rattle.plan.specs.Outcomes.{isMade}
 use Rattle.plan.specs.Sizes.{madeSize}
 use Rattle.plan.specs.Fresh.{tableOf}
 use Rattle.plan.proofs.SizeLaws.{unmade-size}
-use Rattle.result.specs.Result.{countFrom, written, offsetOf, recordBytes, recordsFrom, tablesFrom, resultOf, tablesStart}
-use Rattle.result.specs.Layout.{sizesFrom, resultLength, placeOf}
+use Rattle.result.specs.Result.{countFrom, writtenCount, newOffset, recordBytes, recordsFrom, tablesFrom, resultOf, tablesStart}
+use Rattle.result.specs.Layout.{sizesFrom, resultLength, placeBySizes}
 use Rattle.plan.specs.Outcomes.{isWritten, makerOf, at}
 use Rattle.result.proofs.CountLaws.{Ith, count-few, sizes-split, sizes-snoc}
 use Rattle.result.proofs.LengthLaws.{size-made, length-record, length-records, length-result, offset-place}
@@ -58,7 +58,7 @@ made-written (Made n) e = refl
 pub record Entry (j : Job) (os : List Outcome) (i k : ℕ) : Type 0 where
   pub platform : platformOf (resultOf j os) i ≡ platformOf (j .source) k
   pub encoding : encodingOf (resultOf j os) i ≡ encodingOf (j .source) k
-  pub offset : offsetAt (resultOf j os) i ≡ offsetOf j os (makerOf (at os k) k)
+  pub offset : offsetOf (resultOf j os) i ≡ newOffset j os (makerOf (at os k) k)
 
 module _ (j : Job) (os : List Outcome) (s : Sound j os) where
   -- ---- tables
@@ -78,10 +78,10 @@ module _ (j : Job) (os : List Outcome) (s : Sound j os) where
   -- ---- records
 
   abbrev records : ℕ → ℕ → List ℕ
-  records n k = recordsFrom (offsetOf j os) (j .source) os n k
+  records n k = recordsFrom (newOffset j os) (j .source) os n k
 
   abbrev one : ℕ → List ℕ
-  one k = recordBytes (offsetOf j os) (j .source) os k
+  one k = recordBytes (newOffset j os) (j .source) os k
 
   records-stand : (n k m : ℕ) → m < n → isWritten (at os (k + m)) ≡ true → Stands (records n k) (8 * countFrom os m k) (one (k + m))
   unfolding recordsFrom countFrom
@@ -92,7 +92,7 @@ module _ (j : Job) (os : List Outcome) (s : Sound j os) where
   records-stand (suc n) k (suc m) h w =
       let p : k + suc m ≡ k + 1 + m = omega arith in
       let r = records-stand n (k + 1) m (omega arith) (rw p at w) in
-      let l = length-record (offsetOf j os) (j .source) os k in
+      let l = length-record (newOffset j os) (j .source) os k in
       by-test (Stands (records (suc n) k) (8 * countFrom os (suc m) k) (one (k + suc m))) (isWritten (at os k))
       (λ e. rw (p, e) (stands-behind (one k) (8 * suc (countFrom os m (k + 1))) r (omega arith)))
       (λ e. rw (p, e) r)
@@ -106,8 +106,8 @@ module _ (j : Job) (os : List Outcome) (s : Sound j os) where
   unfolding resultOf
   body-stands {t} {i} place st e =
       let a = length-enc 2 0 in
-      let b = length-enc 2 (written os) in
-      stands-behind (enc 2 0) place (stands-behind (enc 2 (written os)) (2 + i) st (omega arith)) (omega arith)
+      let b = length-enc 2 (writtenCount os) in
+      stands-behind (enc 2 0) place (stands-behind (enc 2 (writtenCount os)) (2 + i) st (omega arith)) (omega arith)
 
   pub written-below : (k : ℕ) → isWritten (at os k) ≡ true → k < length os
   written-below k w =
@@ -115,14 +115,14 @@ module _ (j : Job) (os : List Outcome) (s : Sound j os) where
       (λ h. absurd (false-true (rw (getD-past os k (LeftOut NotRetained) h) at w)))
       (λ h. h)
 
-  pub table-stands : (k : ℕ) → isMade (at os k) ≡ true → Stands (resultOf j os) (offsetOf j os k) (tableOf j k)
-  unfolding offsetOf
+  pub table-stands : (k : ℕ) → isMade (at os k) ≡ true → Stands (resultOf j os) (newOffset j os k) (tableOf j k)
+  unfolding newOffset
   table-stands k m =
       let z = zero-add k in
-      let l = length-records (offsetOf j os) (j .source) os (length os) 0 in
+      let l = length-records (newOffset j os) (j .source) os (length os) 0 in
       let later = length (tablesFrom j os (length os - (k + 1)) (k + 1)) in
       let st : Stands tables later (tableOf j k) = rw z at (tables-stand (length os) 0 k (written-below k (made-written (at os k) m)) (rw z m)) in
-      body-stands (tablesStart os + later) (stands-behind (records (length os) 0) (8 * written os + later) st (omega arith)) (omega arith)
+      body-stands (tablesStart os + later) (stands-behind (records (length os) 0) (8 * writtenCount os + later) st (omega arith)) (omega arith)
 
   pub record-stands : (k : ℕ) → isWritten (at os k) ≡ true → Stands (resultOf j os) (4 + 8 * countFrom os k 0) (one k)
   record-stands k w =
@@ -132,16 +132,16 @@ module _ (j : Job) (os : List Outcome) (s : Sound j os) where
 
   -- ---- the header
 
-  pub accepted-result : Accepted (resultOf j os) (written os)
+  pub accepted-result : Accepted (resultOf j os) (writtenCount os)
   unfolding resultOf
   accepted-result =
       let a = length-enc 2 0 in
       let f = count-few os (length os) 0 in
       let l = length-result j os (s .made) in
       record {
-        count = sym (be-stands-enc 2 (written os) (stands-behind (enc 2 0) 2 (stands-append [] (enc 2 (written os)) (records (length os) 0 ++ tables)) (omega arith)) (omega (arith, f, s .few)));
+        count = sym (be-stands-enc 2 (writtenCount os) (stands-behind (enc 2 0) 2 (stands-append [] (enc 2 (writtenCount os)) (records (length os) 0 ++ tables)) (omega arith)) (omega (arith, f, s .few)));
         header = omega arith;
-        zero = be-stands-enc 2 0 (stands-append [] (enc 2 0) (enc 2 (written os) ++ (records (length os) 0 ++ tables))) (omega arith);
+        zero = be-stands-enc 2 0 (stands-append [] (enc 2 0) (enc 2 (writtenCount os) ++ (records (length os) 0 ++ tables))) (omega arith);
         few = omega (arith, f, s .few);
         fits = omega arith;
       }
@@ -157,8 +157,8 @@ module _ (j : Job) (os : List Outcome) (s : Sound j os) where
       go (Served r) q e = s .served k r q
       go (Made n) q e = record { earlier = omega arith; maker = rw q refl; alike = refl }
 
-  pub offset-small : (k : ℕ) → k < length os → offsetOf j os k < 4294967296
-  unfolding placeOf
+  pub offset-small : (k : ℕ) → k < length os → newOffset j os k < 4294967296
+  unfolding placeBySizes
   offset-small k h =
       let p : k + 1 + (length os - (k + 1)) ≡ length os = omega arith in
       let z = zero-add (k + 1) in
@@ -173,7 +173,7 @@ module _ (j : Job) (os : List Outcome) (s : Sound j os) where
       let i = countFrom os k 0 in
       let p = platformOf (j .source) k in
       let q = encodingOf (j .source) k in
-      let o = offsetOf j os (makerOf (at os k) k) in
+      let o = newOffset j os (makerOf (at os k) k) in
       let u = length-enc 2 p in
       let v = length-enc 2 q in
       record {

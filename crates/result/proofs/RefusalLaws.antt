@@ -17,11 +17,11 @@ use Rattle.source_records.specs.Records.{refused6, refused7}
 use Rattle.lists_checks.specs.Checks.{badSizes, badPairs, badKept, badRequested}
 use Rattle.plan_listing.specs.Job.{Job, glyphCount}
 use Rattle.plan.specs.Plan.{plan, refused8, refused9}
-use Rattle.result.specs.Refusal.{Case, firstOf, earlyRefusals, lateRefusals, refusals, refusalOf, earlyRefusal, lateRefusal, held, rises}
+use Rattle.result.specs.Refusal.{Refusal, firstOf, earlyRefusals, lateRefusals, refusals, refusalOf, earlyRefusal, lateRefusal, held, rises}
 
 -- ---- numbers that rise
 
-module _ (m : ℕ) (c : Case) (cs : List Case) (e : rises m (c ∷ cs) ≡ true) where
+module _ (m : ℕ) (c : Refusal) (cs : List Refusal) (e : rises m (c ∷ cs) ≡ true) where
   number-above : m < c .0
   unfolding rises
   number-above = ltb-true m (c .0) (both-left (ltb m (c .0)) (rises (c .0) cs) e)
@@ -30,7 +30,7 @@ module _ (m : ℕ) (c : Case) (cs : List Case) (e : rises m (c ∷ cs) ≡ true)
   unfolding rises
   others-rise = both-right (ltb m (c .0)) (rises (c .0) cs) e
 
-first-above : (m : ℕ) (cs : List Case) → rises m cs ≡ true → (firstOf cs ≡ 0) ⊎ (m < firstOf cs)
+first-above : (m : ℕ) (cs : List Refusal) → rises m cs ≡ true → (firstOf cs ≡ 0) ⊎ (m < firstOf cs)
 first-above m [] e = inl refl
 first-above m (c ∷ cs) e = go (c .1) (first-above (c .0) cs (others-rise m c cs e))
   where
@@ -39,7 +39,7 @@ first-above m (c ∷ cs) e = go (c .1) (first-above (c .0) cs (others-rise m c c
     go false (inl z) = inl z
     go false (inr h) = inr (omega (arith, h, number-above m c cs e))
 
-later-above : (m n : ℕ) (b : Bool) (front back : List Case) → rises m (front ++ ((n, b) ∷ back)) ≡ true → m < n
+later-above : (m n : ℕ) (b : Bool) (front back : List Refusal) → rises m (front ++ ((n, b) ∷ back)) ≡ true → m < n
 later-above m n b [] back e = number-above m (n, b) back e
 later-above m n b (c ∷ cs) back e =
     let h = number-above m c (cs ++ ((n, b) ∷ back)) e in
@@ -48,19 +48,19 @@ later-above m n b (c ∷ cs) back e =
 -- ---- which is the first
 
 -- cases of which none holds decide nothing
-none-append : (cs ds : List Case) → held cs ≡ false → firstOf (cs ++ ds) ≡ firstOf ds
+none-append : (cs ds : List Refusal) → held cs ≡ false → firstOf (cs ++ ds) ≡ firstOf ds
 unfolding held anyOf
 none-append [] ds h = refl
 none-append (c ∷ cs) ds h = rw (neither-left (c .1) (held cs) h) (none-append cs ds (neither-right (c .1) (held cs) h))
 
 -- the answer r is n exactly if n's condition b holds and none of those in front does
-pub record Given (r : ℕ) (front : List Case) (n : ℕ) (b : Bool) : Type 0 where
+pub record GivenExactly (r : ℕ) (front : List Refusal) (n : ℕ) (b : Bool) : Type 0 where
   pub when : b ≡ true → held front ≡ false → r ≡ n
   pub holds : r ≡ n → b ≡ true
   pub none-before : r ≡ n → held front ≡ false
 
-module _ (n : ℕ) (b : Bool) (back : List Case) where
-  given-only : (m : ℕ) (front : List Case) → rises m (front ++ ((n, b) ∷ back)) ≡ true → firstOf (front ++ ((n, b) ∷ back)) ≡ n → (b ≡ true) × (held front ≡ false)
+module _ (n : ℕ) (b : Bool) (back : List Refusal) where
+  given-only : (m : ℕ) (front : List Refusal) → rises m (front ++ ((n, b) ∷ back)) ≡ true → firstOf (front ++ ((n, b) ∷ back)) ≡ n → (b ≡ true) × (held front ≡ false)
   unfolding held anyOf
   given-only m [] r e = go b e (first-above n back (others-rise m (n, b) back r))
     where
@@ -77,7 +77,7 @@ module _ (n : ℕ) (b : Bool) (back : List Case) where
       go true f o = absurd (omega (arith, f, later-above (c .0) n b cs back (others-rise m c (cs ++ ((n, b) ∷ back)) r)))
       go false f o = o f
 
-pub given-exactly : (front back : List Case) (n : ℕ) (b : Bool) → rises 0 (front ++ ((n, b) ∷ back)) ≡ true → Given (firstOf (front ++ ((n, b) ∷ back))) front n b
+pub given-exactly : (front back : List Refusal) (n : ℕ) (b : Bool) → rises 0 (front ++ ((n, b) ∷ back)) ≡ true → GivenExactly (firstOf (front ++ ((n, b) ∷ back))) front n b
 given-exactly front back n b r = record {
   when = λ e h. none-append front ((n, b) ∷ back) h ∙ rw e;
   holds = λ e. given-only n b back 0 front r e .0;
@@ -86,7 +86,7 @@ given-exactly front back n b r = record {
 
 -- ---- none is
 
-none-held : (m : ℕ) (cs : List Case) → rises m cs ≡ true → firstOf cs ≡ 0 → held cs ≡ false
+none-held : (m : ℕ) (cs : List Refusal) → rises m cs ≡ true → firstOf cs ≡ 0 → held cs ≡ false
 unfolding held anyOf
 none-held m [] r e = refl
 none-held m (c ∷ cs) r e = go (c .1) e (none-held (c .0) cs (others-rise m c cs r))
@@ -96,19 +96,19 @@ none-held m (c ∷ cs) r e = go (c .1) e (none-held (c .0) cs (others-rise m c c
     go false f o = o f
 
 -- the answer r is 0 exactly if none of them holds
-pub record Accepted (r : ℕ) (cs : List Case) : Type 0 where
+pub record Accepted (r : ℕ) (cs : List Refusal) : Type 0 where
   pub when : held cs ≡ false → r ≡ 0
   pub none : r ≡ 0 → held cs ≡ false
 
-pub accepted-exactly : (cs : List Case) → rises 0 cs ≡ true → Accepted (firstOf cs) cs
+pub accepted-exactly : (cs : List Refusal) → rises 0 cs ≡ true → Accepted (firstOf cs) cs
 accepted-exactly cs r = record { when = λ h. rw (append-nil cs) at (none-append cs [] h); none = none-held 0 cs r }
 
 -- ---- one list behind another
 
-pub first-append : (cs ds : List Case) → rises 0 cs ≡ true → firstOf cs ≡ 0 → firstOf (cs ++ ds) ≡ firstOf ds
+pub first-append : (cs ds : List Refusal) → rises 0 cs ≡ true → firstOf cs ≡ 0 → firstOf (cs ++ ds) ≡ firstOf ds
 first-append cs ds r e = none-append cs ds (none-held 0 cs r e)
 
-pub first-stays : (cs ds : List Case) → 0 < firstOf cs → firstOf (cs ++ ds) ≡ firstOf cs
+pub first-stays : (cs ds : List Refusal) → 0 < firstOf cs → firstOf (cs ++ ds) ≡ firstOf cs
 first-stays [] ds h = absurd (omega arith)
 first-stays (c ∷ cs) ds h = go (c .1) h (first-stays cs ds)
   where
@@ -117,7 +117,7 @@ first-stays (c ∷ cs) ds h = go (c .1) h (first-stays cs ds)
     go false f o = o f
 
 -- the first of two answers
-pub first-of : (cs ds : List Case) → rises 0 cs ≡ true → pick (eqb (firstOf cs) 0) (firstOf ds) (firstOf cs) ≡ firstOf (cs ++ ds)
+pub first-of : (cs ds : List Refusal) → rises 0 cs ≡ true → pick (eqb (firstOf cs) 0) (firstOf ds) (firstOf cs) ≡ firstOf (cs ++ ds)
 first-of cs ds r =
     by-pick (λ n. n ≡ firstOf (cs ++ ds)) (eqb (firstOf cs) 0) (firstOf ds) (firstOf cs)
     (λ e. sym (first-append cs ds r (eqb-true (firstOf cs) 0 e)))
@@ -133,10 +133,10 @@ refusals-rise : (j : Job) → rises 0 (refusals j) ≡ true
 unfolding rises
 refusals-rise j = refl
 
-pub refused-exactly : (j : Job) (front back : List Case) (n : ℕ) (b : Bool) → refusals j ≡ front ++ ((n, b) ∷ back) → Given (refusalOf j) front n b
+pub refused-exactly : (j : Job) (front back : List Refusal) (n : ℕ) (b : Bool) → refusals j ≡ front ++ ((n, b) ∷ back) → GivenExactly (refusalOf j) front n b
 unfolding refusalOf
 refused-exactly j front back n b e =
-    subst (λ cs. Given (firstOf cs) front n b) (sym e) (given-exactly front back n b (subst (λ cs. rises 0 cs ≡ true) e (refusals-rise j)))
+    subst (λ cs. GivenExactly (firstOf cs) front n b) (sym e) (given-exactly front back n b (subst (λ cs. rises 0 cs ≡ true) e (refusals-rise j)))
 
 pub let-pass-exactly : (j : Job) → Accepted (refusalOf j) (refusals j)
 unfolding refusalOf
@@ -153,7 +153,7 @@ refusal-early j h = first-stays (earlyRefusals j) (lateRefusals (j .source) (pla
 
 -- ---- what each that let a job pass tells
 
-module _ (n : ℕ) (b : Bool) (cs : List Case) where
+module _ (n : ℕ) (b : Bool) (cs : List Refusal) where
   one-passed : firstOf ((suc n, b) ∷ cs) ≡ 0 → b ≡ false
   one-passed = go b
     where
@@ -187,12 +187,12 @@ early-passed j e₁ =
     let b₅ = refused5 (j .source) in
     let b₆ = refused6 (j .source) in
     let b₇ = refused7 (j .source) in
-    let c₇ : List Case = (7, b₇) ∷ [] in
-    let c₆ : List Case = (6, b₆) ∷ c₇ in
-    let c₅ : List Case = (5, b₅) ∷ c₆ in
-    let c₄ : List Case = (4, b₄) ∷ c₅ in
-    let c₃ : List Case = (3, b₃) ∷ c₄ in
-    let c₂ : List Case = (2, b₂) ∷ c₃ in
+    let c₇ : List Refusal = (7, b₇) ∷ [] in
+    let c₆ : List Refusal = (6, b₆) ∷ c₇ in
+    let c₅ : List Refusal = (5, b₅) ∷ c₆ in
+    let c₄ : List Refusal = (4, b₄) ∷ c₅ in
+    let c₃ : List Refusal = (3, b₃) ∷ c₄ in
+    let c₂ : List Refusal = (2, b₂) ∷ c₃ in
     let e₂ = rest-passed 0 b₁ c₂ e₁ in
     let e₃ = rest-passed 1 b₂ c₃ e₂ in
     let e₄ = rest-passed 2 b₃ c₄ e₃ in
@@ -233,7 +233,7 @@ passed j e =
     let p = early-passed j z in
     let b₈ = refused8 (plan j) in
     let b₉ = refused9 (j .source) (plan j) in
-    let c₉ : List Case = (9, b₉) ∷ [] in
+    let c₉ : List Refusal = (9, b₉) ∷ [] in
     let e₈ : firstOf ((8, b₈) ∷ c₉) ≡ 0 = sym (refusal-late j z) ∙ e in
     record {
       sizes = p .sizes;

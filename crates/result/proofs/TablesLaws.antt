@@ -30,7 +30,7 @@ use Rattle.format14.specs.Format14.{rows}
 use Rattle.format14.proofs.ShortLaws.{Modest, rows-few, rows-short}
 use Rattle.format14.proofs.WholeLaws.{length-format14}
 use Rattle.plan.specs.declared.Outcome.the-variants.{Made}
-use Rattle.plan.specs.Fresh.{listedOf, givenOf, tableAs, tableOf, fresh}
+use Rattle.plan.specs.Fresh.{listedOf, job14Of, tableAs, tableOf, fresh}
 use Rattle.result.specs.Lent.{Lent}
 use Rattle.result.proofs.ListedLaws.{above-listed, fits-listed, listed-glyph}
 use Rattle.result.proofs.MadeLaws.{made-length, by-format, made-written4, language12-fits, table-is}
@@ -38,7 +38,7 @@ use Rattle.result.proofs.Format14Laws.{format14-kind-stands}
 
 module _ {j : Job} (l : Lent j) (k : ℕ) where
   -- a format 14 record's source and lists keep to the limits
-  pub modest : {r len : ℕ} → leadsTo (j .source) k ≡ Format14 r len → Modest (givenOf j k len)
+  pub modest : {r len : ℕ} → leadsTo (j .source) k ≡ Format14 r len → Modest (job14Of j k len)
   unfolding leadsTo
   modest e =
       let t = tells14 (j .source) (offsetOf (j .source) k) e in
@@ -54,7 +54,7 @@ module _ {j : Job} (l : Lent j) (k : ℕ) where
         by-format j k n made (n < 2147483648)
         (λ language s len e. omega (arith, long-as (Format4 language s len) e, made-written4 j k n made e (l .bytes) .short))
         (λ language g len e. omega (arith, long-as (Format12 language g len) e, length-is language (listedOf j k), groups-few (listedOf j k) (above-listed l k)))
-        (λ r len e. omega (arith, long-as (Format14 r len) e, length-format14 (rows (givenOf j k len)), rows-short (givenOf j k len) (modest e)))
+        (λ r len e. omega (arith, long-as (Format14 r len) e, length-format14 (rows (job14Of j k len)), rows-short (job14Of j k len) (modest e)))
 
     -- ---- at a place of any bytes
 
@@ -90,11 +90,11 @@ module _ {j : Job} (l : Lent j) (k : ℕ) where
 
       module _ {r len : ℕ} (e : leadsTo (j .source) k ≡ Format14 r len) where
         -- a readable format 14
-        pub made-kind14 : kindAt xs at ≡ Format14 (length (rows (givenOf j k len))) n
+        pub made-kind14 : kindAt xs at ≡ Format14 (length (rows (job14Of j k len))) n
         made-kind14 =
             let m = modest e in
-            format14-kind-stands (rows (givenOf j k len)) (rows-few (givenOf j k len) m) (omega (arith, rows-short (givenOf j k len) m)) (stands-as (Format14 r len) e)
-            ∙ ap (Format14 (length (rows (givenOf j k len)))) (sym (long-as (Format14 r len) e))
+            format14-kind-stands (rows (job14Of j k len)) (rows-few (job14Of j k len) m) (omega (arith, rows-short (job14Of j k len) m)) (stands-as (Format14 r len) e)
+            ∙ ap (Format14 (length (rows (job14Of j k len)))) (sym (long-as (Format14 r len) e))
 
       -- a readable subtable of the record's own format
       pub made-format : formatOf (kindAt xs at) ≡ formatOf (leadsTo (j .source) k)

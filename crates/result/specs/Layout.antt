@@ -13,8 +13,8 @@ unfoldable pub sizesFrom : List Outcome → ℕ → ℕ → ℕ
 sizesFrom os zero k = 0
 sizesFrom os (suc n) k = madeSize (at os k) + sizesFrom os n (k + 1)
 
-unfoldable pub placeOf : List Outcome → ℕ → ℕ
-placeOf os k = tablesStart os + sizesFrom os (length os - (k + 1)) (k + 1)
+unfoldable pub placeBySizes : List Outcome → ℕ → ℕ
+placeBySizes os k = tablesStart os + sizesFrom os (length os - (k + 1)) (k + 1)
 
 abbrev pub resultLength : List Outcome → ℕ
 resultLength os = tablesStart os + sizesFrom os (length os) 0

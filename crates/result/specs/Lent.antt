@@ -1,4 +1,4 @@
--- What a job that is not refused holds to (docs/01-rules.md, "What is lent" and "Numbers of refusal", 1 and 2), as far as its tables rest on it.
+-- Inner: what a job that is not refused holds to (docs/RULES.md, "What is lent" and "Numbers of refusal", 1 and 2), as far as its tables rest on it; no promise names it.
 use Prim.Native.Nat.{ℕ, _≤_}
 use lib.ListN.{length, getD}
 use Rattle.laws.specs.Lists.{Rising}

@@ -1,4 +1,4 @@
--- The whole result of a job, and where each record's table stands in it (docs/01-rules.md, "Records").
+-- The whole result of a job, and where each record's table stands in it (docs/RULES.md, "Records").
 use Prim.Native.Nat.{ℕ, zero, suc, _+_, _*_, _-_}
 use mathlib.Core.List.{List, [], _++_}
 use mathlib.Core.Bool.{Bool}
@@ -21,8 +21,8 @@ unfoldable pub countFrom : List Outcome → ℕ → ℕ → ℕ
 countFrom os zero k = 0
 countFrom os (suc n) k = let r = countFrom os n (k + 1) in pick (isWritten (at os k)) (suc r) r
 
-abbrev pub written : List Outcome → ℕ
-written os = countFrom os (length os) 0
+abbrev pub writtenCount : List Outcome → ℕ
+writtenCount os = countFrom os (length os) 0
 
 -- ---- the tables
 
@@ -33,11 +33,11 @@ tablesFrom j os (suc n) k = tablesFrom j os n (k + 1) ++ pick (isMade (at os k))
 
 -- they stand behind the header and the records
 abbrev pub tablesStart : List Outcome → ℕ
-tablesStart os = 4 + 8 * written os
+tablesStart os = 4 + 8 * writtenCount os
 
 -- those of later records stand before record k's
-unfoldable pub offsetOf : Job → List Outcome → ℕ → ℕ
-offsetOf j os k = tablesStart os + length (tablesFrom j os (length os - (k + 1)) (k + 1))
+unfoldable pub newOffset : Job → List Outcome → ℕ → ℕ
+newOffset j os k = tablesStart os + length (tablesFrom j os (length os - (k + 1)) (k + 1))
 
 -- ---- the records
 
@@ -56,4 +56,4 @@ recordsFrom offset xs os (suc n) k =
 
 -- version 0, count, records, tables
 unfoldable pub resultOf : Job → List Outcome → List ℕ
-resultOf j os = enc 2 0 ++ (enc 2 (written os) ++ (recordsFrom (offsetOf j os) (j .source) os (length os) 0 ++ tablesFrom j os (length os) 0))
+resultOf j os = enc 2 0 ++ (enc 2 (writtenCount os) ++ (recordsFrom (newOffset j os) (j .source) os (length os) 0 ++ tablesFrom j os (length os) 0))

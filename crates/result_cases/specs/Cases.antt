@@ -1,4 +1,4 @@
--- Cases C1 to C10 of docs/01-rules.md as one table of data. Each is computed from the definitions that the code is proved to equal.
+-- Inner: cases C1 to C10 of docs/RULES.md as one table of data; a law computes each from the definitions that the code is proved to equal, and no promise names them.
 use Prim.Native.Nat.{ℕ, zero, suc, _+_, _*_, _/_}
 use mathlib.Core.List.{List, [], _∷_, _++_}
 use mathlib.Core.Bool.{Bool, true, not}
@@ -10,9 +10,9 @@ use Rattle.laws.specs.Select.{each, select, eqList}
 use Rattle.number.specs.BigEndian.{be}
 use Rattle.number.specs.Row.{encs}
 use Rattle.format4.specs.Format4.{format4}
-use Rattle.format12.specs.Format12.{group, table, format12}
+use Rattle.format12.specs.Format12.{group, groupTable, format12}
 use Rattle.format12_mapped.specs.Mapped12.{maps12}
-use Rattle.format14_uvs.specs.Tables.{table as tableOf}
+use Rattle.format14_uvs.specs.Tables.{uvsTable}
 use Rattle.format14_uvs.specs.Default.{rangeBytes, newDefault}
 
 -- what is said of a format 4 subtable; the closing segment is one of its segments
@@ -66,7 +66,7 @@ cases =
     ∷ mapped-of 100 102 0 10 (99 ∷ 100 ∷ 101 ∷ 102 ∷ 103 ∷ []) (101 ∷ 102 ∷ [])
     ∷ []
 
--- Beside the ten, what docs/01-rules.md and docs/DECISIONS.md say of the edges.
+-- Beside the ten, what docs/RULES.md and docs/DECISIONS.md say of the edges.
 abbrev pub edges : List Case
 edges =
     -- the cost is 8 for a range's first run alone, not for the first after a commit
@@ -87,43 +87,43 @@ edges =
 -- ---- whether a case holds
 
 -- s numbers of two bytes from a place
-abbrev pub column : List ℕ → ℕ → ℕ → List ℕ
-column xs at s = each (λ i. be 2 xs (at + 2 * i)) s 0
+abbrev pub wordsAt : List ℕ → ℕ → ℕ → List ℕ
+wordsAt xs at s = each (λ i. be 2 xs (at + 2 * i)) s 0
 
 -- the subtable's own fields: its length, half of segCountX2, deltas and range offsets
 abbrev pub segmentCount : List ℕ → ℕ
 segmentCount xs = be 2 xs 6 / 2
 
 abbrev pub deltas : List ℕ → List ℕ
-deltas xs = column xs (16 + 4 * segmentCount xs) (segmentCount xs)
+deltas xs = wordsAt xs (16 + 4 * segmentCount xs) (segmentCount xs)
 
 abbrev pub offsets : List ℕ → List ℕ
-offsets xs = column xs (16 + 6 * segmentCount xs) (segmentCount xs)
+offsets xs = wordsAt xs (16 + 6 * segmentCount xs) (segmentCount xs)
 
-abbrev pub holds : List ℕ → Fact → Bool
-holds xs (words-are ws) = eqList xs (encs 2 ws)
-holds xs (length-is n) = both (eqb (length xs) n) (eqb (be 2 xs 2) n)
-holds xs (segments-are n) = eqb (segmentCount xs) n
-holds xs (array-segments-are n) = eqb (length (select (λ o. not (eqb o 0)) (offsets xs))) n
-holds xs (deltas-are ds) = eqList (deltas xs) ds
-holds xs (first-offset-is o) = eqb (be 2 xs (16 + 6 * segmentCount xs)) o
+abbrev pub factHolds : List ℕ → Fact → Bool
+factHolds xs (words-are ws) = eqList xs (encs 2 ws)
+factHolds xs (length-is n) = both (eqb (length xs) n) (eqb (be 2 xs 2) n)
+factHolds xs (segments-are n) = eqb (segmentCount xs) n
+factHolds xs (array-segments-are n) = eqb (length (select (λ o. not (eqb o 0)) (offsets xs))) n
+factHolds xs (deltas-are ds) = eqList (deltas xs) ds
+factHolds xs (first-offset-is o) = eqb (be 2 xs (16 + 6 * segmentCount xs)) o
 
-abbrev pub hold : List ℕ → List Fact → Bool
-hold xs [] = true
-hold xs (f ∷ fs) = both (holds xs f) (hold xs fs)
+abbrev pub factsHold : List ℕ → List Fact → Bool
+factsHold xs [] = true
+factsHold xs (f ∷ fs) = both (factHolds xs f) (factsHold xs fs)
 
 -- a default table of two points and of r - 1 lone ones far above; the points that are kept are the first
-abbrev pub defaultTable : ℕ → List ℕ
-defaultTable zero = []
-defaultTable (suc r) = tableOf rangeBytes ((0x41, 1) ∷ each (λ i. (0x1000 + 2 * i, 0)) r 0)
+abbrev pub sampleDefault : ℕ → List ℕ
+sampleDefault zero = []
+sampleDefault (suc r) = uvsTable rangeBytes ((0x41, 1) ∷ each (λ i. (0x1000 + 2 * i, 0)) r 0)
 
 abbrev pub goodCase : Case → Bool
-goodCase (format4-of ps fs) = hold (format4 0 ps) fs
+goodCase (format4-of ps fs) = factsHold (format4 0 ps) fs
 goodCase (format12-of ps groups bytes) =
     let xs = format12 0 ps in
     both (eqb (be 4 xs 12) groups) (both (eqb (length xs) bytes) (eqb (be 4 xs 4) bytes))
-goodCase (default-of r kept new) = eqList (newDefault (defaultTable r) 0 (each (λ i. 0x41 + i) kept 0)) (tableOf rangeBytes new)
-goodCase (mapped-of start end glyph n asked mapped) = eqList (keep (maps12 (table 12 0 (group start end glyph ∷ [])) 0 1 n) asked asked) mapped
+goodCase (default-of r kept new) = eqList (newDefault (sampleDefault r) 0 (each (λ i. 0x41 + i) kept 0)) (uvsTable rangeBytes new)
+goodCase (mapped-of start end glyph n asked mapped) = eqList (keep (maps12 (groupTable 12 0 (group start end glyph ∷ [])) 0 1 n) asked asked) mapped
 
 abbrev pub good : List Case → Bool
 good [] = true

@@ -1,1 +1,1 @@
-// No code: cases C1 to C10 of docs/01-rules.md as one table, and the definitions give what it says.
+// No code: cases C1 to C10 of docs/RULES.md as one table, and the definitions give what it says.

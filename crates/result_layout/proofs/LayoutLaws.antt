@@ -11,9 +11,9 @@ use Rattle.plan.specs.Sizes.{madeSize}
 use Rattle.plan.specs.Notes.{tells, outcomesIn}
 use Rattle.plan.proofs.SizeLaws.{size-held}
 use Rattle.plan.proofs.NotedLaws.{at-noted, length-noted}
-use Rattle.result.specs.Result.{countFrom, written}
-use Rattle.result.specs.Layout.{sizesFrom, placeOf, resultLength}
-use Rattle.result_layout.specs.Counts.{Told, Counts}
+use Rattle.result.specs.Result.{countFrom, writtenCount}
+use Rattle.result.specs.Layout.{sizesFrom, placeBySizes, resultLength}
+use Rattle.result_layout.specs.Counts.{OutcomesTold, Counts}
 
 -- ---- counts
 
@@ -44,7 +44,7 @@ module _ (m : ℕ) (notes : List ℕ) (n k : ℕ) (l : Counting m notes n k) whe
     unfolding countFrom
     counting-no e = record { within = omega arith; few = omega (arith, l .few); left = omega (arith, rw (on, ← asked, e) at (l .left)) }
 
-  pub counted-all : m ≤ length notes → m ≤ k → n ≡ written (outcomesIn m notes)
+  pub counted-all : m ≤ length notes → m ≤ k → n ≡ writtenCount (outcomesIn m notes)
   unfolding countFrom
   counted-all long h =
       let z : m - k ≡ 0 = omega arith in
@@ -65,7 +65,7 @@ pub adding-start : (m : ℕ) (notes : List ℕ) (k : ℕ) → k ≤ m → Adding
 adding-start m notes k h = record { from = omega arith; within = h; few = omega arith; left = omega arith }
 
 module _ (m : ℕ) (notes : List ℕ) (k n i : ℕ) (l : Adding m notes k n i) where
-  module _ (o : Outcome) (size : ℕ) (told : Told m notes) (h : i < m) (f : o ≡ tells (getD notes i 0)) (e : size ≡ madeSize o) where
+  module _ (o : Outcome) (size : ℕ) (told : OutcomesTold m notes) (h : i < m) (f : o ≡ tells (getD notes i 0)) (e : size ≡ madeSize o) where
     sized : size ≡ madeSize (at (outcomesIn m notes) i)
     sized = rw (at-noted m i notes h, ← f) e
 
@@ -92,7 +92,7 @@ module _ (m : ℕ) (notes : List ℕ) (k n i : ℕ) (l : Adding m notes k n i) w
       let z : m - i ≡ 0 = omega arith in
       omega (arith, rw z at (l .left))
 
-  pub added-few : Told m notes → n ≤ 64 * 4294967296
+  pub added-few : OutcomesTold m notes → n ≤ 64 * 4294967296
   added-few told = omega (arith, l .few, l .within, told .few)
 
 pub ruleset adding = (adding-start, adding-on, added-all, added-few)
@@ -103,8 +103,8 @@ module _ (m : ℕ) (notes : List ℕ) (count : ℕ) (c : Counts m notes count) w
   all : length (outcomesIn m notes) ≡ m
   all = length-noted m notes (c .told .long)
 
-  pub place-is : (k later : ℕ) → later ≡ sizesFrom (outcomesIn m notes) (m - (k + 1)) (k + 1) → 4 + 8 * count + later ≡ placeOf (outcomesIn m notes) k
-  unfolding placeOf
+  pub place-is : (k later : ℕ) → later ≡ sizesFrom (outcomesIn m notes) (m - (k + 1)) (k + 1) → 4 + 8 * count + later ≡ placeBySizes (outcomesIn m notes) k
+  unfolding placeBySizes
   place-is k later e = rw all (omega (arith, e, c .is, ap (λ (n : ℕ). countFrom (outcomesIn m notes) n 0) all))
 
   pub length-is : (sizes : ℕ) → sizes ≡ sizesFrom (outcomesIn m notes) (m - 0) 0 → 4 + 8 * count + sizes ≡ resultLength (outcomesIn m notes)

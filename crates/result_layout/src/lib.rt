@@ -4,14 +4,15 @@ ghost use Prim.Native.Nat.{_+_, _-_, _*_, _≤_, _<_};
 ghost use lib.ListN.{length};
 ghost use Rattle.plan.specs.Sizes.{Small};
 ghost use Rattle.plan.specs.Notes.{outcomesIn};
-ghost use Rattle.result.specs.Result.{written};
-ghost use Rattle.result.specs.Layout.{sizesFrom, placeOf, resultLength};
-ghost use Rattle.result_layout.specs.Counts.{Told, Counts};
+ghost use Rattle.result.specs.Result.{writtenCount};
+ghost use Rattle.result.specs.Layout.{sizesFrom, placeBySizes, resultLength};
+ghost use Rattle.result_layout.specs.Counts.{OutcomesTold, Counts};
+ghost use Rattle.number.specs.Limits.{recordsMax};
 
 // How many of the m records are written.
 pub fn count_written(notes: &[usize], m: usize) -> usize
     requires { ⌜ m ≤ length (now notes) ⌝ }
-    ensures { λ r. ⌜ (r ≡ written (outcomesIn m (now (notes .entry)))) × (r ≤ m) ⌝ }
+    ensures { λ r. ⌜ (r ≡ writtenCount (outcomesIn m (now (notes .entry)))) × (r ≤ m) ⌝ }
 {
     let mut n: usize = 0;
     let mut k = 0;
@@ -27,9 +28,9 @@ pub fn count_written(notes: &[usize], m: usize) -> usize
 
 // The lengths of the tables that the records from k on made, together.
 pub fn sizes_from(notes: &[usize], m: usize, k: usize) -> usize
-    requires { ⌜ Told m (now notes) ⌝ }
+    requires { ⌜ OutcomesTold m (now notes) ⌝ }
     requires { ⌜ k ≤ m ⌝ }
-    ensures { λ r. ⌜ (r ≡ sizesFrom (outcomesIn m (now (notes .entry))) (m - k) k) × (r ≤ 64 * 4294967296) ⌝ }
+    ensures { λ r. ⌜ (r ≡ sizesFrom (outcomesIn m (now (notes .entry))) (m - k) k) × (r ≤ recordsMax * 4294967296) ⌝ }
 {
     let mut n: usize = 0;
     let mut i = k;
@@ -44,7 +45,7 @@ pub fn sizes_from(notes: &[usize], m: usize, k: usize) -> usize
 pub fn offset_of(notes: &[usize], m: usize, k: usize, count: usize) -> usize
     requires { ⌜ Counts m (now notes) count ⌝ }
     requires { ⌜ k < m ⌝ }
-    ensures { λ r. ⌜ r ≡ placeOf (outcomesIn m (now (notes .entry))) k ⌝ }
+    ensures { λ r. ⌜ r ≡ placeBySizes (outcomesIn m (now (notes .entry))) k ⌝ }
 {
     4 + 8 * count + sizes_from(notes, m, k + 1)
 }

@@ -20,7 +20,7 @@ use Rattle.plan.specs.Prepared.{Prepared}
 use Rattle.plan.proofs.PlanLaws.{ready, prepared-again}
 use Rattle.result.proofs.MadeLaws.{made-length}
 use Rattle.result.proofs.PlanLaws.{Making, plan-past, plan-made, plan-served}
-use Rattle.result.specs.Result.{written, resultOf}
+use Rattle.result.specs.Result.{writtenCount, resultOf}
 use Rattle.result.specs.Layout.{resultLength}
 use Rattle.plan.specs.Outcomes.{isWritten, makerOf, at}
 use Rattle.plan.proofs.SizeLaws.{made-size}

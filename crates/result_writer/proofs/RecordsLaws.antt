@@ -15,7 +15,7 @@ use Rattle.source_header.specs.declared.EncodingRecord.{EncodingRecord}
 use Rattle.source_header.specs.Header.{recordOf}
 use Rattle.plan.specs.declared.Outcome.{Outcome}
 use Rattle.result.specs.Result.{countFrom, recordBytes, recordsFrom}
-use Rattle.result.specs.Layout.{placeOf}
+use Rattle.result.specs.Layout.{placeBySizes}
 use Rattle.plan.specs.Outcomes.{isWritten, makerOf, at}
 use Rattle.result.proofs.LengthLaws.{length-record}
 use Rattle.result_writer.specs.RecordParts.{Recorded, Laid}
@@ -74,8 +74,8 @@ module _ (xs : List ℕ) (m : ℕ) (notes : List ℕ) (k count maker : ℕ) (o :
   pub maker-inside : maker < m
   maker-inside = rw (sym maker-is) (r .maker)
 
-  pub record-is : (rec : EncodingRecord) (offset i : ℕ) (out fin : List ℕ) → rec ≡ recordOf xs k → offset ≡ placeOf os maker
-      → fin ≡ sets out i (enc 2 (rec .platform) ++ (enc 2 (rec .encoding) ++ enc 4 offset)) → fin ≡ sets out i (recordBytes (placeOf os) xs os k)
+  pub record-is : (rec : EncodingRecord) (offset i : ℕ) (out fin : List ℕ) → rec ≡ recordOf xs k → offset ≡ placeBySizes os maker
+      → fin ≡ sets out i (enc 2 (rec .platform) ++ (enc 2 (rec .encoding) ++ enc 4 offset)) → fin ≡ sets out i (recordBytes (placeBySizes os) xs os k)
   record-is rec offset i out fin q g h = rw (maker-is, ← g) (rw q at h)
 
 pub ruleset recorded = (maker-inside, record-is)
@@ -88,7 +88,7 @@ pub record Recording (xs : List ℕ) (m : ℕ) (notes out₀ out : List ℕ) (pl
   pub low : place ≤ 4 + 8 * k
   pub room : place + 8 * countFrom (outcomesIn m notes) (m - k) k ≤ length out
   pub same : length out ≡ length out₀
-  pub left : sets out place (recordsFrom (placeOf (outcomesIn m notes)) xs (outcomesIn m notes) (m - k) k) ≡ sets out₀ 4 (recordsFrom (placeOf (outcomesIn m notes)) xs (outcomesIn m notes) m 0)
+  pub left : sets out place (recordsFrom (placeBySizes (outcomesIn m notes)) xs (outcomesIn m notes) (m - k) k) ≡ sets out₀ 4 (recordsFrom (placeBySizes (outcomesIn m notes)) xs (outcomesIn m notes) m 0)
 
 pub recording-start : (xs : List ℕ) (m : ℕ) (notes : List ℕ) (count : ℕ) (out : List ℕ) → Laid xs m notes count → 4 + 8 * count ≤ length out → Recording xs m notes out out 4 0
 recording-start xs m notes count out l h =
@@ -102,7 +102,7 @@ module _ (xs : List ℕ) (m : ℕ) (notes out₀ out : List ℕ) (place k : ℕ)
   plan-told = outcomesIn m notes
 
   abbrev offset : ℕ → ℕ
-  offset = placeOf plan-told
+  offset = placeBySizes plan-told
 
   pub recording-end : m ≤ k → out ≡ sets out₀ 4 (recordsFrom offset xs plan-told m 0)
   unfolding recordsFrom

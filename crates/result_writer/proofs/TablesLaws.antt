@@ -19,7 +19,7 @@ use Rattle.plan.specs.Outcomes.{at, isMade}
 use Rattle.result.proofs.CountLaws.{sizes-snoc, tables-snoc}
 use Rattle.plan.proofs.SizeLaws.{unmade-size, size-held}
 use Rattle.result_writer.specs.Writing.{WritesPlan}
-use Rattle.result_writer.specs.TableParts.{Room, Known}
+use Rattle.result_writer.specs.TableParts.{TableRoom, Known}
 use Rattle.result.proofs.LengthLaws.{size-made}
 use Rattle.result_writer.proofs.PlannedLaws.{planned-again, ready-of, making-of, lengths}
 use Rattle.source_header.specs.Header.{recordCount}
@@ -118,7 +118,7 @@ module _ (j : Job) (notes : List ℕ) (count : ℕ) (out₀ fs₀ tocs₀ togs�
           sized : size ≡ madeSize (at os (k - 1))
           sized = rw told s
 
-          pub tabling-room : Room j (k - 1) place size (length out)
+          pub tabling-room : TableRoom j (k - 1) place size (length out)
           tabling-room = record {
             is = rw sized (making-of j notes count fs tocs togs (l .planned) (k - 1) made .is);
             fits = omega (arith, l .room, sizes-down, s);

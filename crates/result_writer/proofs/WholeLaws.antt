@@ -17,8 +17,8 @@ use Rattle.plan.specs.Fresh.{tableOf}
 use Rattle.plan.specs.Notes.{outcomesIn}
 use Rattle.plan.specs.Plan.{plan}
 use Rattle.plan.proofs.OutcomesLaws.{length-plan}
-use Rattle.result.specs.Result.{written, tablesStart, offsetOf, recordsFrom, tablesFrom, resultOf}
-use Rattle.result.specs.Layout.{placeOf, resultLength}
+use Rattle.result.specs.Result.{writtenCount, tablesStart, newOffset, recordsFrom, tablesFrom, resultOf}
+use Rattle.result.specs.Layout.{placeBySizes, resultLength}
 use Rattle.result.proofs.MadeLaws.{made-length}
 use Rattle.result.proofs.PlanLaws.{plan-made}
 use Rattle.result_writer.specs.RecordParts.{Laid}
@@ -69,24 +69,24 @@ module _ (xs cs gs kept map requested notes : List ℕ) (count : ℕ) (fs tocs t
     all = length-plan j
 
     pub whole-is : (m : ℕ) (out one two fin : List ℕ) → m ≡ recordCount xs → one ≡ sets out 0 (enc 2 0 ++ enc 2 count)
-        → two ≡ sets one 4 (recordsFrom (placeOf (outcomesIn m notes)) xs (outcomesIn m notes) m 0)
+        → two ≡ sets one 4 (recordsFrom (placeBySizes (outcomesIn m notes)) xs (outcomesIn m notes) m 0)
         → fin ≡ sets two (tablesStart os) (tablesFrom j os (recordCount xs) 0) → fin ≡ sets out 0 (resultOf j (plan j))
     unfolding resultOf
     whole-is m out one two fin q a b c =
         let ps = plan j in
-        let records = recordsFrom (offsetOf j ps) xs ps (length ps) 0 in
+        let records = recordsFrom (newOffset j ps) xs ps (length ps) 0 in
         let tables = tablesFrom j ps (length ps) 0 in
-        let count-is : count ≡ written ps = rw (p .is) at (p .counts .is) in
-        let b₁ : two ≡ sets one 4 (recordsFrom (placeOf ps) xs ps (recordCount xs) 0) = rw (q, p .is) at b in
-        let b₂ : two ≡ sets one 4 records = b₁ ∙ ap (λ (z : List ℕ). sets one 4 z) (records-same (records-alike (placeOf ps) (offsetOf j ps) xs ps (λ k. sym (offset-place j ps (made-as j) k)) (recordCount xs) 0)) in
+        let count-is : count ≡ writtenCount ps = rw (p .is) at (p .counts .is) in
+        let b₁ : two ≡ sets one 4 (recordsFrom (placeBySizes ps) xs ps (recordCount xs) 0) = rw (q, p .is) at b in
+        let b₂ : two ≡ sets one 4 records = b₁ ∙ ap (λ (z : List ℕ). sets one 4 z) (records-same (records-alike (placeBySizes ps) (newOffset j ps) xs ps (λ k. sym (offset-place j ps (made-as j) k)) (recordCount xs) 0)) in
         let c₁ : fin ≡ sets two (tablesStart ps) (tablesFrom j ps (recordCount xs) 0) = rw (p .is) at c in
         let c₂ : fin ≡ sets two (tablesStart ps) tables = c₁ ∙ ap (λ (n : ℕ). sets two (tablesStart ps) (tablesFrom j ps n 0)) (sym all) in
-        let far : tablesStart ps ≡ 4 + length records = ap (λ (n : ℕ). 4 + n) (sym (length-records (offsetOf j ps) xs ps (length ps) 0)) in
-        joined out one two fin (enc 2 (written ps)) records tables (rw count-is at a) b₂ (rw far at c₂) (length-enc 2 (written ps))
+        let far : tablesStart ps ≡ 4 + length records = ap (λ (n : ℕ). 4 + n) (sym (length-records (newOffset j ps) xs ps (length ps) 0)) in
+        joined out one two fin (enc 2 (writtenCount ps)) records tables (rw count-is at a) b₂ (rw far at c₂) (length-enc 2 (writtenCount ps))
       where
-        records-same : recordsFrom (placeOf (plan j)) xs (plan j) (recordCount xs) 0 ≡ recordsFrom (offsetOf j (plan j)) xs (plan j) (recordCount xs) 0
-            → recordsFrom (placeOf (plan j)) xs (plan j) (recordCount xs) 0 ≡ recordsFrom (offsetOf j (plan j)) xs (plan j) (length (plan j)) 0
-        records-same e = e ∙ ap (λ (n : ℕ). recordsFrom (offsetOf j (plan j)) xs (plan j) n 0) (sym all)
+        records-same : recordsFrom (placeBySizes (plan j)) xs (plan j) (recordCount xs) 0 ≡ recordsFrom (newOffset j (plan j)) xs (plan j) (recordCount xs) 0
+            → recordsFrom (placeBySizes (plan j)) xs (plan j) (recordCount xs) 0 ≡ recordsFrom (newOffset j (plan j)) xs (plan j) (length (plan j)) 0
+        records-same e = e ∙ ap (λ (n : ℕ). recordsFrom (newOffset j (plan j)) xs (plan j) n 0) (sym all)
 
         made-as : (i : Job) (k n : ℕ) → at (plan i) k ≡ Made n → n ≡ length (tableOf i k)
         made-as i k n e = made-length i k n (plan-made i k n e .is)

@@ -9,7 +9,7 @@ use Rattle.plan.specs.Fresh.{fresh}
 use Rattle.plan.specs.Notes.{Fronted, Ended}
 
 -- record k makes a table of so many bytes if no earlier one serves it, and it fits into l bytes at a place
-pub record Room (j : Job) (k place size l : ℕ) : Type 0 where
+pub record TableRoom (j : Job) (k place size l : ℕ) : Type 0 where
   pub is : fresh j k ≡ Made size
   pub fits : place + size ≤ l
 

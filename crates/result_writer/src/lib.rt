@@ -13,16 +13,17 @@ ghost use Rattle.plan.specs.Making.{Ready};
 ghost use Rattle.plan.specs.Notes.{outcomesIn};
 ghost use Rattle.plan.specs.Plan.{plan};
 ghost use Rattle.result.specs.Result.{recordBytes, recordsFrom, tablesStart, tablesFrom, resultOf};
-ghost use Rattle.result.specs.Layout.{placeOf, resultLength};
+ghost use Rattle.result.specs.Layout.{placeBySizes, resultLength};
 ghost use Rattle.result_writer.specs.RecordParts.{Recorded, Laid};
-ghost use Rattle.result_writer.specs.TableParts.{Room, Known};
+ghost use Rattle.result_writer.specs.TableParts.{TableRoom, Known};
 ghost use Rattle.result_writer.specs.Writing.{WritesPlan};
+ghost use Rattle.number.specs.Limits.{recordsMax};
 
 // ---- header and records
 
 fn put_header(out: &mut [u8], count: usize)
     requires { ⌜ 4 ≤ length (now out) ⌝ }
-    requires { ⌜ count ≤ 64 ⌝ }
+    requires { ⌜ count ≤ recordsMax ⌝ }
     ensures { λ _. ⌜ now (out .exit) ≡ sets (now (out .entry)) 0 (enc 2 0 ++ enc 2 count) ⌝ }
 {
     number_writer::put_u16(out, 0, 0);
@@ -50,7 +51,7 @@ fn serialize_encoding_record(
 )
     requires { ⌜ Recorded (now s) m (now notes) k count ⌝ }
     requires { ⌜ place + 8 ≤ length (now out) ⌝ }
-    ensures { λ _. ⌜ (let os = outcomesIn m (now (notes .entry)) in now (out .exit) ≡ sets (now (out .entry)) place (recordBytes (placeOf os) (now (s .entry)) os k)) ⌝ }
+    ensures { λ _. ⌜ (let os = outcomesIn m (now (notes .entry)) in now (out .exit) ≡ sets (now (out .entry)) place (recordBytes (placeBySizes os) (now (s .entry)) os k)) ⌝ }
 {
     let record = source_records::encoding_record(s, k);
     let maker = plan_outcomes::maker_of(plan_outcomes::outcome_at(notes, k), k);
@@ -62,7 +63,7 @@ fn serialize_encoding_record(
 fn serialize_encoding_records(out: &mut [u8], s: &[u8], m: usize, notes: &[usize], count: usize)
     requires { ⌜ Laid (now s) m (now notes) count ⌝ }
     requires { ⌜ 4 + 8 * count ≤ length (now out) ⌝ }
-    ensures { λ _. ⌜ (let os = outcomesIn m (now (notes .entry)) in now (out .exit) ≡ sets (now (out .entry)) 4 (recordsFrom (placeOf os) (now (s .entry)) os m 0)) ⌝ }
+    ensures { λ _. ⌜ (let os = outcomesIn m (now (notes .entry)) in now (out .exit) ≡ sets (now (out .entry)) 4 (recordsFrom (placeBySizes os) (now (s .entry)) os m 0)) ⌝ }
 {
     let mut place: usize = 4;
     let mut k = 0;
@@ -102,7 +103,7 @@ fn write_table(
     notes: &[usize],
 )
     requires { ⌜ (let j = job (now s) (now codes) (now glyphs) (now kept) (now map) (now requested) in
-        Ready j (table .record) (now flags) (now tocodes) (now toglyphs) × Room j (table .record) (table .place) (table .size) (length (now out))
+        Ready j (table .record) (now flags) (now tocodes) (now toglyphs) × TableRoom j (table .record) (table .place) (table .size) (length (now out))
         × Known j (table .record) (now notes)) ⌝ }
     ensures { λ _. ⌜ now (out .exit) ≡ sets (now (out .entry)) (table .place) (tableOf (job (now (s .entry)) (now (codes .entry)) (now (glyphs .entry)) (now (kept .entry)) (now (map .entry)) (now (requested .entry))) (table .record)) ⌝ }
 {

@@ -1,5 +1,5 @@
 -- What stands at an offset: a readable subtable of format 4, 12 or 14 with its language, count and length, or nothing readable
--- (docs/01-rules.md, "Records"). Sums are exact. A field past the end makes a subtable unreadable: the length, which holds the header,
+-- (docs/RULES.md, "Records"). Sums are exact. A field past the end makes a subtable unreadable: the length, which holds the header,
 -- would then reach past the end too.
 use Prim.Native.Nat.{ℕ, _+_, _*_, _/_, _%_}
 use mathlib.Core.List.{List}

@@ -1,4 +1,4 @@
--- What a function over a readable subtable asks for: a format 4's parts lie inside its length, and that inside the source; a format 12's
+-- Inner: what a function over a readable subtable asks for; no promise names it. A format 4's parts lie inside its length, and that inside the source; a format 12's
 -- groups lie inside the source.
 use Prim.Native.Nat.{ℕ, _+_, _*_, _≤_, _<_}
 use mathlib.Core.List.{List}

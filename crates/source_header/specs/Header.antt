@@ -1,4 +1,4 @@
--- The source's header, refusal 5 and the records (docs/01-rules.md, "Numbers of refusal" and "Records").
+-- The source's header, refusal 5 and the records (docs/RULES.md, "Numbers of refusal" and "Records").
 use Prim.Native.Nat.{ℕ, _+_, _*_}
 use mathlib.Core.List.{List}
 use mathlib.Core.Bool.{Bool, not}

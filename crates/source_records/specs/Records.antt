@@ -1,4 +1,4 @@
--- Which records are retained, and refusals 6 and 7 (docs/01-rules.md, "Records" and "Numbers of refusal").
+-- Which records are retained, and refusals 6 and 7 (docs/RULES.md, "Records" and "Numbers of refusal").
 use Prim.Native.Nat.{ℕ, _+_, _*_, _≤_}
 use mathlib.Core.Path.{_≡_}
 use mathlib.Core.List.{List}

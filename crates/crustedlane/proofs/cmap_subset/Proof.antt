@@ -48,12 +48,12 @@ use denote.Exit.{yes}
 use Rattle.laws.specs.Choice as choice
 use Rattle.plan_listing.specs.Job.{job}
 use Rattle.laws.specs.Lists.{laid}
-use Rattle.host_pairs.specs.declared.Pair.{Pair}
+use Rattle.host_pairs.specs.declared.PairRecord.{PairRecord}
 use Rattle.host_pairs.specs.Pairs as column
 use Rattle.host_pairs.specs.Pairs.{codesOf, glyphsOf}
 use Rattle.host_pairs.proofs.LaidLaws.{laid-first, laid-length}
 use Rattle.host_pairs.proofs.Relend.{relend, regain}
-use Rattle.host_pairs.proofs.Pair as T
+use Rattle.host_pairs.proofs.PairRecord as T
 use Rattle.host_told.specs.declared.SubsetAnswer.{SubsetAnswer}
 use Rattle.host_calls.specs.Calls.{broken}
 use Rattle.host_pairs.proofs.SizesLaws.{long}
@@ -105,7 +105,7 @@ is-false true a = absurd a
 is-false false a = refl
 
 module _ {M : Type 1} (𝓤 : URA M) (H : Heap 𝓤) (A : Atoms 𝓤) (W : Given 𝓤 H A) (mem : Memory → SProp 𝓤) (run : Routine → Fun 𝓤) (κ₀ κ₁ κ₂ κ₃ κ₄ κ₅ κ₆ κ₇ : Lft) (q₀ q₁ q₂ q₃ q₄ q₅ q₆ q₇ : Share)
-    (b₀ o₀ : ℕ) (γ₀ : GName) (src : List ℕ) (b₁ o₁ : ℕ) (γ₁ : GName) (ps : List Pair) (b₂ o₂ : ℕ) (γ₂ : GName) (cs : List ℕ) (b₃ o₃ : ℕ) (γ₃ : GName) (gs : List ℕ) (b₄ o₄ : ℕ) (γ₄ : GName) (kept : List ℕ) (b₅ o₅ : ℕ) (γ₅ : GName) (map : List ℕ) (b₆ o₆ : ℕ) (γ₆ : GName) (req : List ℕ) (b₇ o₇ : ℕ) (γ₇ : GName) (out : List ℕ)
+    (b₀ o₀ : ℕ) (γ₀ : GName) (src : List ℕ) (b₁ o₁ : ℕ) (γ₁ : GName) (ps : List PairRecord) (b₂ o₂ : ℕ) (γ₂ : GName) (cs : List ℕ) (b₃ o₃ : ℕ) (γ₃ : GName) (gs : List ℕ) (b₄ o₄ : ℕ) (γ₄ : GName) (kept : List ℕ) (b₅ o₅ : ℕ) (γ₅ : GName) (map : List ℕ) (b₆ o₆ : ℕ) (γ₆ : GName) (req : List ℕ) (b₇ o₇ : ℕ) (γ₇ : GName) (out : List ℕ)
     (room₀ : Room u8 (length src)) (room₁ : Room T.the-row (length ps)) (room₂ : Room u32 (length cs)) (room₃ : Room u16 (length gs)) (room₄ : Room u32 (length kept)) (room₅ : Room u16 (length map)) (room₆ : Room u16 (length req)) (room₇ : Room u8 (length out)) where
   abbrev n : ℕ
   n = length ps
@@ -117,7 +117,7 @@ module _ {M : Type 1} (𝓤 : URA M) (H : Heap 𝓤) (A : Atoms 𝓤) (W : Given
   abbrev s₀ : Val
   s₀ = sliceVal (b₀, o₀) (length src)
 
-  abbrev x₁ : RefT (List Pair)
+  abbrev x₁ : RefT (List PairRecord)
   x₁ = record { ptr = (b₁, o₁); name = γ₁; now = ps }
 
   abbrev s₁ : Val
@@ -162,7 +162,7 @@ module _ {M : Type 1} (𝓤 : URA M) (H : Heap 𝓤) (A : Atoms 𝓤) (W : Given
   abbrev κs : Lfts 8
   κs = (κ₀, (κ₁, (κ₂, (κ₃, (κ₄, (κ₅, (κ₆, (κ₇, tt))))))))
 
-  abbrev x : RefT (List ℕ) × (RefT (List Pair) × (RefT (List ℕ) × (RefT (List ℕ) × (RefT (List ℕ) × (RefT (List ℕ) × (RefT (List ℕ) × (RefT (List ℕ) × Unit {0})))))))
+  abbrev x : RefT (List ℕ) × (RefT (List PairRecord) × (RefT (List ℕ) × (RefT (List ℕ) × (RefT (List ℕ) × (RefT (List ℕ) × (RefT (List ℕ) × (RefT (List ℕ) × Unit {0})))))))
   x = (x₀, (x₁, (x₂ γ₂ cs, (x₃ γ₃ gs, (x₄, (x₅, (x₆, (x₇, tt))))))))
 
   abbrev at : Vals f.signature κs

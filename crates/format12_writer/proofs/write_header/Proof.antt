@@ -3,7 +3,7 @@ use native.Mathlib.Omega.{arith}
 use Rattle.number.specs.BigEndian.{enc}
 use Rattle.number.specs.Row.{encs}
 use Rattle.number.proofs.BigEndianLaws.{written-first, written-on}
-use Rattle.format12.specs.Format12.{header}
+use Rattle.format12.specs.Format12.{header12}
 use borrow.Author.Needs.{needs}
 use Rattle.format12_writer.proofs.write_header.Statement.{statement}
 use Rattle.format12_writer.proofs.write_header.Tie as tie
@@ -51,7 +51,7 @@ same-length : tie.Need-same-length
 same-length c = search needs
 
 returns : tie.Need-returns
-unfolding header encs enc
+unfolding header12 encs enc
 returns c =
     let w₁ = written-first 2 _ _ _ (c .before .before .before .before .before .before .before .before .before .before .before .before .before .before .before .before .before .before .put-u16 .ensures) in
     let w₂ = written-on 2 _ _ w₁ (c .before .before .before .before .before .before .before .before .before .before .before .before .before .before .put-u162 .ensures) (omega arith) in

@@ -7,14 +7,14 @@ use lib.ListN.{length}
 use Rattle.laws.specs.Select.{eqList}
 use Rattle.laws.proofs.SearchLaws.{Seeking, seeking}
 use Rattle.format14_places.proofs.EqualLaws.{later-equals}
-use Rattle.format14.specs.Selectors.{given}
+use Rattle.format14.specs.Selectors.{job14}
 use Rattle.format14.specs.ByNumber.{slot}
 use Rattle.format14_places.proofs.later_equal.Statement.{statement}
 use Rattle.format14_places.proofs.later_equal.Tie as tie
 
 abbrev Inv-loop : tie.InvT-loop
 Inv-loop s subtable kept map requested flags₀ others₀ lengths sums t m j₀ flags others j =
-    let f = slot (given s (subtable .at) (subtable .len) kept map requested) in
+    let f = slot (job14 s (subtable .at) (subtable .len) kept map requested) in
     Seeking (λ i. eqList (f t) (f i)) m (t + 1) j × ((length flags ≡ length flags₀) × (length others ≡ length others₀))
 
 abbrev μ-loop : tie.MeasureT-loop

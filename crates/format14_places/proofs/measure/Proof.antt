@@ -7,14 +7,14 @@ use lib.ListN.{length, length-set}
 use mathlib.Core.Path.{_≡_}
 use Prim.Native.Nat.{_-_, _≤_}
 use Rattle.format14.specs.ByNumber.{slot}
-use Rattle.format14.specs.Selectors.{given}
-use Rattle.format14_places.specs.Measuring.{Sources, Refused}
+use Rattle.format14.specs.Selectors.{job14}
+use Rattle.format14_places.specs.Measuring.{Sources, SomeSlotBad}
 use Rattle.format14_places.proofs.MeasuringLaws.{Measuring, measuring-start, measuring, before, sources-start, sources-on, refusing, refused-all}
 
 abbrev Inv-loop : tie.InvT-loop
 Inv-loop s subtable kept map requested flags₀ lengths₀ sums₀ m sources₀ t₀ refused₀ flags lengths sums sources t refused =
-    let g = given s (subtable .at) (subtable .len) kept map requested in
-    Measuring (slot g) m t lengths sums × (Sources s (subtable .at) (subtable .len) kept t sources × (Refused g t refused × ((length flags ≡ length flags₀) × ((length lengths ≡ length lengths₀) × ((length sums ≡ length sums₀) × ((length sources ≡ 1024) × (m ≤ 1024)))))))
+    let g = job14 s (subtable .at) (subtable .len) kept map requested in
+    Measuring (slot g) m t lengths sums × (Sources s (subtable .at) (subtable .len) kept t sources × (SomeSlotBad g t refused × ((length flags ≡ length flags₀) × ((length lengths ≡ length lengths₀) × ((length sums ≡ length sums₀) × ((length sources ≡ 1024) × (m ≤ 1024)))))))
 
 abbrev μ-loop : tie.MeasureT-loop
 μ-loop s subtable kept map requested flags₀ lengths₀ sums₀ m sources₀ t₀ refused₀ flags lengths sums sources t refused =

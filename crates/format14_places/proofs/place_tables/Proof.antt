@@ -6,14 +6,14 @@ use mathlib.Core.Path.{_≡_}
 use lib.ListN.{length, length-set}
 use Rattle.format14_places.proofs.PlacingLaws.{Placing, placing-start, placing, placing-there, placing-ends, placing-total, tail-fits}
 use Rattle.number.specs.BigEndian.{be}
-use Rattle.format14.specs.Selectors.{given}
+use Rattle.format14.specs.Selectors.{job14}
 use Rattle.format14.specs.ByNumber.{slot}
 use Rattle.format14_places.proofs.place_tables.Statement.{statement}
 use Rattle.format14_places.proofs.place_tables.Tie as tie
 
 abbrev Inv-loop : tie.InvT-loop
 Inv-loop s subtable kept map requested flags₀ others₀ lengths sums ends₀ m tail₀ k₀ flags others ends tail k =
-    Placing (slot (given s (subtable .at) (subtable .len) kept map requested)) (2 * be 4 s (subtable .at + 6)) k ends tail × ((length flags ≡ length flags₀) × ((length others ≡ length others₀) × (length ends ≡ length ends₀)))
+    Placing (slot (job14 s (subtable .at) (subtable .len) kept map requested)) (2 * be 4 s (subtable .at + 6)) k ends tail × ((length flags ≡ length flags₀) × ((length others ≡ length others₀) × (length ends ≡ length ends₀)))
 
 abbrev μ-loop : tie.MeasureT-loop
 μ-loop s subtable kept map requested flags₀ others₀ lengths sums ends₀ m tail₀ k₀ flags others ends tail k = k

@@ -6,13 +6,13 @@ use mathlib.Core.Path.{_≡_}
 use lib.ListN.{length}
 use Rattle.format14.proofs.FillingLaws.{Filling, filling, slot-room, far-fits}
 use Rattle.number.specs.BigEndian.{be}
-use Rattle.format14.specs.Selectors.{given}
+use Rattle.format14.specs.Selectors.{job14}
 use Rattle.format14.specs.ByNumber.{slot}
 use Rattle.format14_writer.proofs.copy_var_selector_record_uvs_tables.Statement.{statement}
 use Rattle.format14_writer.proofs.copy_var_selector_record_uvs_tables.Tie as tie
 
 abbrev Inv-loop : tie.InvT-loop
-Inv-loop out₀ stop s subtable kept map requested flags₀ ends tail₀ k₀ out flags tail k = Filling (slot (given s (subtable .at) (subtable .len) kept map requested)) (2 * be 4 s (subtable .at + 6)) stop out₀ k out tail × (length flags ≡ length flags₀)
+Inv-loop out₀ stop s subtable kept map requested flags₀ ends tail₀ k₀ out flags tail k = Filling (slot (job14 s (subtable .at) (subtable .len) kept map requested)) (2 * be 4 s (subtable .at + 6)) stop out₀ k out tail × (length flags ≡ length flags₀)
 
 abbrev μ-loop : tie.MeasureT-loop
 μ-loop out₀ stop s subtable kept map requested flags₀ ends tail₀ k₀ out flags tail k = k

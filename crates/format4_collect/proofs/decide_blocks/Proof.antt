@@ -1,7 +1,7 @@
 -- The flags from low up to j are decided, and the notes are true of them.
 use Rattle.format4_collect.proofs.DownwardLaws.{deciding, decided-then, held-part, flags-kept}
 use Rattle.format4_mapped.specs.Mapped4.{says4}
-use Rattle.format4_collect.specs.Downward.{Decided, Noted}
+use Rattle.format4_collect.specs.Downward.{Decided, NotedBlocks}
 use native.Mathlib.Omega.{arith}
 use Prim.Native.Nat.{_-_, _≤_}
 use borrow.Author.Needs.{needs}
@@ -9,7 +9,7 @@ use Rattle.format4_collect.proofs.decide_blocks.Statement.{statement}
 use Rattle.format4_collect.proofs.decide_blocks.Tie as tie
 
 abbrev Inv-loop : tie.InvT-loop
-Inv-loop s t i segment points flags₀ noted₀ span j₀ flags noted j = Decided (says4 s (t .at) (t .segs) (t .len) i segment) points flags₀ flags (span .low) j × Noted noted flags × (j ≤ span .high)
+Inv-loop s t i segment points flags₀ noted₀ span j₀ flags noted j = Decided (says4 s (t .at) (t .segs) (t .len) i segment) points flags₀ flags (span .low) j × NotedBlocks noted flags × (j ≤ span .high)
 
 abbrev μ-loop : tie.MeasureT-loop
 μ-loop s t i segment points flags₀ noted₀ span j₀ flags noted j = span .high - j

@@ -48,12 +48,12 @@ use denote.Triple.Spec.{Meets, tripleOf}
 use denote.Triple.Table.{entered}
 use denote.Triple.Walked.{says, needs, Stays, stay-none-slice, stay-slice, walkOf, goes-none-slice, goes-slice, Walks, ends-at, walked, walk-meets}
 use denote.Exit.{yes}
-use Rattle.host_pairs.specs.declared.Pair.{Pair}
+use Rattle.host_pairs.specs.declared.PairRecord.{PairRecord}
 use Rattle.host_pairs.specs.Pairs as column
 use Rattle.host_pairs.specs.Pairs.{codesOf, glyphsOf}
 use Rattle.host_pairs.proofs.LaidLaws.{upto, length-upto, upto-step, upto-all}
-use Rattle.host_pairs.proofs.Pair as T
-use Rattle.host_pairs.proofs.Pair.Laws as T′
+use Rattle.host_pairs.proofs.PairRecord as T
+use Rattle.host_pairs.proofs.PairRecord.Laws as T′
 use Rattle.host_pairs.proofs.copy_pairs.Key.{name as #pairs·copy-pairs}
 use Rattle.host_pairs.proofs.copy_pairs as f
 use Rattle.host_pairs.proofs.copy_pairs.Statement as stated
@@ -64,7 +64,7 @@ abbrev stayed : Stays (f.ended .signature .params) (f.ended .kept)
 stayed = (stay-none-slice (0 ∷ []) tt (plain (λ _. T.the-row)) yes, (stay-slice (1 ∷ []) tt (plain (λ _. u32)), (stay-slice (2 ∷ []) tt (plain (λ _. u16)), tt)))
 
 -- stands where a list is asked past its end
-abbrev none : Pair
+abbrev none : PairRecord
 none = record { code = 0; glyph = 0 }
 
 -- ---- truth values and numbers
@@ -100,12 +100,12 @@ abbrev slice₃ : Ty
 slice₃ = sliceTy (tyRef (named 2) mut (tyInt w16))
 
 module _ {M : Type 1} (𝓤 : URA M) (H : Heap 𝓤) (A : Atoms 𝓤) (W : Given 𝓤 H A) (at-mem : Memory → SProp 𝓤) (run : Routine → Fun 𝓤) (κ₁ κ₂ κ₃ : Lft) (q₁ q₂ q₃ : Share)
-    (b₁ o₁ : ℕ) (γ₁ : GName) (ps : List Pair) (b₂ o₂ : ℕ) (γ₂ : GName) (cs : List ℕ) (b₃ o₃ : ℕ) (γ₃ : GName) (gs : List ℕ)
+    (b₁ o₁ : ℕ) (γ₁ : GName) (ps : List PairRecord) (b₂ o₂ : ℕ) (γ₂ : GName) (cs : List ℕ) (b₃ o₃ : ℕ) (γ₃ : GName) (gs : List ℕ)
     (room₁ : Room T.the-row (length ps)) (room₂ : Room u32 (length cs)) (room₃ : Room u16 (length gs)) (long : (length ps ≤ length cs) × (length ps ≤ length gs)) where
   abbrev n : ℕ
   n = length ps
 
-  abbrev x₁ : RefT (List Pair)
+  abbrev x₁ : RefT (List PairRecord)
   x₁ = record { ptr = (b₁, o₁); name = γ₁; now = ps }
 
   abbrev x₂ : List ℕ → RefT (List ℕ)
@@ -123,7 +123,7 @@ module _ {M : Type 1} (𝓤 : URA M) (H : Heap 𝓤) (A : Atoms 𝓤) (W : Given
   abbrev s₃ : Val
   s₃ = sliceVal (b₃, o₃) (length gs)
 
-  abbrev x : RefT (List Pair) × (RefT (List ℕ) × (RefT (List ℕ) × Unit {0}))
+  abbrev x : RefT (List PairRecord) × (RefT (List ℕ) × (RefT (List ℕ) × Unit {0}))
   x = (x₁, (x₂ cs, (x₃ gs, tt)))
 
   abbrev at : Vals f.signature (κ₁, (κ₂, (κ₃, tt)))
@@ -243,7 +243,7 @@ module _ {M : Type 1} (𝓤 : URA M) (H : Heap 𝓤) (A : Atoms 𝓤) (W : Given
         forget ! 4 refl $ forget ! 5 refl $ forget ! 6 refl $ forget ! 7 refl $ forget ! 8 refl $ forget ! 9 refl $ forget ! 10 refl $
         rewrite ! 3 (λ (j : ℕ). ‵ (fat fullShare word l₄ 0 (vint w64 j))) one-more refl $ by ! k)))
       where
-        elem : Pair
+        elem : PairRecord
         elem = getD ps i none
 
         mach : Val
