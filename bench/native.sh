@@ -1,5 +1,5 @@
 #!/usr/bin/env bash
-# For measuring on aarch64: the module that rt staticlib compiles for x86-64, compiled by the kit's own clang for this machine, into
+# For hosts and for measuring on aarch64: the module that rt staticlib compiles for x86-64, compiled by the kit's own clang for this machine, into
 # target/native/libcrustedlane.a. A copy of the kit's folder hands the module out; the proofs and the module are those of rt staticlib.
 set -eu
 cd "$(dirname "$0")/.."

@@ -8,7 +8,7 @@ fn main() {
     println!("cargo:rerun-if-changed=build.rs");
     println!("cargo:rerun-if-env-changed=CRUSTEDLANE_ARCHIVE");
     let archive = match env::var_os("CRUSTEDLANE_ARCHIVE") {
-        Some(named) => PathBuf::from(named),
+        Some(named) => absolute(PathBuf::from(named)),
         None => of_the_repository(),
     };
     println!("cargo:rerun-if-changed={}", archive.display());
@@ -19,6 +19,15 @@ fn main() {
     }
     println!("cargo:rustc-link-search=native={}", linked.display());
     println!("cargo:rustc-link-lib=static=crustedlane");
+}
+
+/// The path that the variable names. A relative one would be read in this package's folder, where Cargo runs this script,
+/// and not in the user's, so it is refused.
+fn absolute(archive: PathBuf) -> PathBuf {
+    if archive.is_relative() {
+        stop(&format!("CRUSTEDLANE_ARCHIVE must be an absolute path, and {} is not one.", archive.display()));
+    }
+    archive
 }
 
 /// The archive in the repository that this package stands in, made if it is not there.

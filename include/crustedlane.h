@@ -21,7 +21,18 @@
  *    9  neither a format 4 nor a format 12 table is written
  *   10  the whole result is longer than the output
  *   11  (heads) there is no table that this head reads
- * docs/01-rules.md has the rules to the byte; docs/PROMISES.md what is proved.
+ *
+ * **Variation forms are kept only for selectors on the kept list.** To keep none is no ground for a refusal: all forms
+ * are then lost.
+ * The glyphs of the pairs are the caller's word. They are held against their limit, 65,534, and against nothing else: neither the
+ * map nor the glyphs of the source.
+ *
+ * A head is a print head: it is asked for one code point and prints a glyph, by the table that it was sent. Each head goes by its own
+ * table: the old one by format 4, so that it prints 0 for every code point above 0xFFFF; the new one by format 12, if there is
+ * one. Neither reads format 14, which is for a reader of code points with selectors.
+ *
+ * docs/GLOSSARY.md tells pairs, kept, map and requested by one worked job; docs/RULES.md has the rules to the byte; docs/PROMISES.md
+ * says what is proved.
  */
 #ifndef CRUSTEDLANE_H
 #define CRUSTEDLANE_H
@@ -75,12 +86,13 @@ typedef struct {
 } crustedlane_glyph;
 
 /* Cuts the source's map and writes the result to the output.
- *   pairs      the listed code points and their new glyphs
+ *   pairs      the listed code points and their new glyphs: what formats 4 and 12 are written from
  *   codes, glyphs   work room, each at least as long as the pairs. After any answer but 1 their first places hold the pairs' code
  *              points and glyphs. The places after those stay as they were, and after 1 all of them
  *   kept       the code points that stay in the font, the listed ones and the wanted selectors among them
- *   map        entry g is old glyph g's new number, 65,535 if it is absent; its count is the font's glyph count
- *   requested  old glyphs that keep their variation mappings
+ *   map        entry g is old glyph g's new number, 65,535 if it is absent; its count is the font's glyph count. The variation
+ *              forms of format 14 get their new glyphs from it
+ *   requested  old glyphs whose variation mappings stay, under a kept selector, though the code point is not kept
  * With number 0 the first length bytes of the output are the result, and the others stay. A refusal leaves the whole output. */
 crustedlane_answer cmap_subset(const uint8_t *source, size_t source_count,
                                const crustedlane_pair *pairs, size_t pair_count,
@@ -103,7 +115,7 @@ crustedlane_fate cmap_fate(const uint8_t *source, size_t source_count,
                            size_t record);
 
 /* The glyph that the old head prints for a code point: by the first record that leads to a readable format 4. The new one goes by
- * the first readable format 12, and as the old one if there is none. Any number is taken for a code point. */
+ * the first readable format 12, and as the old one if there is none. Any number is taken for a code point, and a table of any length. */
 crustedlane_glyph cmap_old_head(const uint8_t *table, size_t table_count, uint32_t code);
 crustedlane_glyph cmap_new_head(const uint8_t *table, size_t table_count, uint32_t code);
 

@@ -1,4 +1,4 @@
-//! Whether a job lies in the agreed domain of `docs/01-rules.md`.
+//! Whether a job lies in the agreed domain of `docs/RULES.md`.
 use crate::model::{Group, Model, Segment, Selector, Subtable};
 use std::collections::BTreeSet;
 

@@ -1,4 +1,4 @@
-//! Made-up jobs, given to an implementation of `docs/01-rules.md` and to the crate, and compared.
+//! Made-up jobs, given to an implementation of `docs/RULES.md` and to the crate, and compared.
 // "mod 65,536" is written as the rules write it.
 #![allow(clippy::manual_is_multiple_of)]
 

@@ -1,5 +1,5 @@
-/* A host that cuts docs/01-rules.md's "Whole output" job and asks what the promises say of it. Prints each question that gets another
- * answer, then the count of those. */
+/* A host that cuts the whole output's job (docs/RULES.md, "Cases") and checks what the promises say of it. It prints each check that
+ * fails, and at its end how many checks it made and how many failed; it exits with 1 where one failed. */
 #include <stdalign.h>
 #include <stddef.h>
 #include <stdio.h>
@@ -40,13 +40,15 @@ static uint32_t codes[3];
 static uint16_t glyphs[3];
 static uint8_t output[48];
 
-static int wrong;
+static int made;
+static int failed;
 
 static void expect(const char *what, int holds)
 {
+    made++;
     if (!holds) {
-        printf("otherwise: %s\n", what);
-        wrong++;
+        printf("failed: %s\n", what);
+        failed++;
     }
 }
 
@@ -135,6 +137,6 @@ int main(void)
     expect("5 for a table of 3 bytes", glyph_is(cmap_old_head(source, 3, 0x41), 5, 0));
     expect("11 where the record leads past the end", glyph_is(cmap_new_head(source, 43, 0x41), 11, 0));
 
-    printf("%d otherwise\n", wrong);
-    return wrong != 0;
+    printf("%d checks, %d failed\n", made, failed);
+    return failed != 0;
 }

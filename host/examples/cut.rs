@@ -1,9 +1,10 @@
 //! Cuts a character map down to some code points; every glyph keeps its number.
 //!
-//!     cargo run --example cut FONT NEW (POINT | @TEXT)...
+//!     cargo run --release --manifest-path host/Cargo.toml --example cut FONT NEW (POINT | @TEXT)...
 //!
 //! FONT is a TTF or OTF, or a cmap table alone. A POINT is a hexadecimal number; @TEXT names a file whose characters
-//! are all taken. NEW gets the new table. What became of each record is printed.
+//! are all taken. Variation forms stay for the selectors among them. NEW gets the new table. What became of each record
+//! is printed.
 use crustedlane::{fate, new_head, old_head, subset, Answer, FateKind, Pair};
 use std::error::Error;
 

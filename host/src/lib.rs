@@ -4,7 +4,7 @@
 //! record, and [`old_head`] and [`new_head`] tell what a print head prints. Any sizes and any bytes get an answer.
 //! What the library asks of a host is that pointers are good, aligned and not null, and that nothing else reads or
 //! writes what a call writes; Rust's slices are all of that, so every call here is safe. The rules are in
-//! `docs/01-rules.md`, what is proved in `docs/PROMISES.md`.
+//! `docs/RULES.md`, what is proved in `docs/PROMISES.md`; `docs/GLOSSARY.md` tells the lists by one job.
 //!
 //! [`plain`] is a second implementation of the rules, written from their text and not from the proved code. It
 //! exists to be compared with.
@@ -20,9 +20,13 @@ pub use boundary::Pair;
 
 /// Cuts the source's map down to the pairs and writes the result to `out`.
 ///
-/// `kept` are the code points that stay in the font, those of the pairs and the wanted selectors among them; entry g
-/// of `map` is old glyph g's new number, 65,535 if it is absent; `requested` are old glyphs that keep their variation
-/// mappings. Lists rise strictly. A refusal leaves `out` as it was, a result leaves the bytes after it.
+/// `kept` are the code points that stay in the font, those of the pairs and the wanted selectors among them. Entry g
+/// of `map` is old glyph g's new number, 65,535 if it is absent. `requested` are old glyphs whose variation mappings
+/// stay, under a kept selector, though the code point is not kept. `kept`, `requested` and the points of `pairs` rise
+/// strictly. A refusal leaves `out` as it was, a result leaves the bytes after it.
+///
+/// **Variation forms are kept only for selectors on the kept list.** The glyphs of `pairs` are the caller's word: they
+/// are held against their limit of 65,534 and against nothing else, neither the map nor the source.
 pub fn subset(
     source: &[u8],
     pairs: &[Pair],
@@ -121,13 +125,15 @@ pub fn fate_in(
     raw.into()
 }
 
-/// The glyph that the old head prints for a code point: by the first record that leads to a readable format 4.
+/// The glyph that the old head prints for a code point: by the first record that leads to a readable format 4. So it
+/// prints 0 for every point above U+FFFF, also where the new head has a glyph.
 pub fn old_head(table: &[u8], code: u32) -> Result<u16, Refusal> {
     // SAFETY: the pointer and count are a slice's.
     unsafe { boundary::cmap_old_head(table.as_ptr(), table.len(), code) }.into()
 }
 
-/// The glyph that the new head prints: by the first readable format 12, and as the old head if there is none.
+/// The glyph that the new head prints: by the first readable format 12, and as the old head if there is none. Neither
+/// head reads format 14.
 pub fn new_head(table: &[u8], code: u32) -> Result<u16, Refusal> {
     // SAFETY: the pointer and count are a slice's.
     unsafe { boundary::cmap_new_head(table.as_ptr(), table.len(), code) }.into()

@@ -1,4 +1,4 @@
-//! The rules of `docs/01-rules.md`, as plainly as they can be said in Rust.
+//! The rules of `docs/RULES.md`, as plainly as they can be said in Rust.
 //!
 //! Nothing here is shared with the proved crates. Numbers are wide enough that nothing wraps, except
 //! where the rules say "mod 65,536". Clarity comes before speed.

@@ -1,4 +1,4 @@
-//! The cases of `docs/01-rules.md` and examples of `docs/DECISIONS.md`, asked of the plain implementation.
+//! The cases of `docs/RULES.md` and examples of `docs/DECISIONS.md`, asked of the plain implementation.
 use crustedlane::plain::{fate, fates, new_head, old_head, subset, Answer, FateKind, Head};
 
 fn be(numbers: &[(u32, usize)]) -> Vec<u8> {

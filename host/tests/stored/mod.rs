@@ -1,5 +1,6 @@
 //! The stored jobs: `stdin`, `stdout` and `names` as `tools/pack_vectors.py` writes them, in `crates/job_vectors` or the
-//! directory that CRUSTEDLANE_VECTORS names. The answers are the program's own, since `rt check` holds it to them.
+//! directory that CRUSTEDLANE_VECTORS names by an absolute path, since Cargo runs tests in the package's folder. The
+//! answers are the program's own, since `rt check` holds it to them.
 use std::path::{Path, PathBuf};
 
 /// A stored job with its answer.
@@ -15,6 +16,7 @@ pub fn stored() -> Vec<Stored> {
         Some(named) => PathBuf::from(named),
         None => Path::new(env!("CARGO_MANIFEST_DIR")).join("../crates/job_vectors"),
     };
+    assert!(directory.is_absolute(), "CRUSTEDLANE_VECTORS must be an absolute path");
     let read = |name| std::fs::read(directory.join(name)).expect("a file of stored jobs");
     let (stdin, stdout) = (read("stdin"), read("stdout"));
     let names = String::from_utf8(read("names")).expect("names");
