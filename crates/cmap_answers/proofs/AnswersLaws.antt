@@ -22,7 +22,6 @@ use Rattle.heads.specs.declared.Printed.the-variants.{Glyph, Refused}
 use Rattle.heads.specs.Heads.{oldHead, newHead}
 use Rattle.heads.proofs.HeadsLaws.{old-first, old-none, new-first, new-as-old}
 use Rattle.plan.specs.declared.Outcome.{Outcome}
-use Rattle.plan.specs.declared.Why.the-variants.{NotRetained, Skipped, Empty, TooLong, Covered}
 use Rattle.plan.specs.declared.Outcome.the-variants.{LeftOut, BadMapping, Served, Made}
 use Rattle.plan.specs.Outcomes.{isMade}
 use Rattle.plan.specs.Fresh.{listedOf, tableOf}

@@ -2,34 +2,30 @@
 use Prim.Native.Nat.{ℕ, _<_, _≤_}
 use mathlib.Core.Path.{_≡_, refl, sym, ap, _∙_}
 use mathlib.Core.List.{List}
-use mathlib.Core.Bool.{true, false}
 use native.Mathlib.Omega.{arith}
 use lib.Dec.{ltb, eqb}
 use lib.ListN.{length}
 use lib.Seq.{sets}
-use borrow.Author.Tests.{eq-eqb, ne-eqb, eqb-true, eqb-false, lt-ltb, le-ltb, ltb-false}
-use Rattle.laws.specs.Choice.{pick}
-use Rattle.laws.proofs.ChoiceLaws.{by-pick, by-test}
+use borrow.Author.Tests.{eq-eqb, ne-eqb, eqb-true, lt-ltb, le-ltb, ltb-false}
+use Rattle.laws.proofs.ChoiceLaws.{by-test}
 use Rattle.laws.proofs.FrontLaws.{sets-front}
-use Rattle.source_header.proofs.HeaderLaws.{accepted-of}
 use Rattle.plan_listing.specs.Job.{Job}
 use Rattle.plan.specs.declared.Outcome.{Outcome}
 use Rattle.plan.specs.Plan.{plan}
 use Rattle.result.proofs.MadeLaws.{made-length}
 use Rattle.plan.specs.Fresh.{tableOf}
 use Rattle.result.proofs.PlanLaws.{plan-made}
-use Rattle.result.specs.Result.{writtenCount, resultOf}
+use Rattle.result.specs.Result.{writtenCount}
 use Rattle.result.specs.Layout.{resultLength}
 use Rattle.result.specs.Refusal.{refusalOf, earlyRefusal, lateRefusal}
-use Rattle.result.proofs.RefusalLaws.{early-passed, refusal-early, refusal-late}
+use Rattle.result.proofs.RefusalLaws.{refusal-early, refusal-late}
 use Rattle.result.proofs.LengthLaws.{length-result}
 use Rattle.result.proofs.CountLaws.{count-few}
 use Rattle.result_layout.specs.Counts.{Counts}
 use Rattle.plan.specs.declared.Outcome.the-variants.{Made}
 use Rattle.cmap_promise.specs.declared.Answer.{Answer}
 use Rattle.cmap_promise.specs.declared.Answer.the-variants.{Written, Refused, NoRoom}
-use Rattle.cmap_promise.specs.Cmap.{recordsOf, result, numberIn, answerOf, outputOf}
-use Rattle.cmap_promise.proofs.NumberLaws.{number-refused, number-passed, refusal-low}
+use Rattle.cmap_promise.specs.Cmap.{recordsOf, result, answerOf, outputOf}
 use Rattle.cmap_concluding.specs.Concluding.{Planned, answerBy}
 use Rattle.plan.specs.Notes.{outcomesIn}
 use Rattle.source_header.specs.Header.{recordCount}

@@ -7,7 +7,6 @@ use lib.ListN.{length}
 use Rattle.source_header.specs.Header.{recordCount}
 use Rattle.source_header.proofs.HeaderLaws.{Accepted, accepted-of}
 use Rattle.plan_listing.specs.Job.{Job, job}
-use Rattle.plan.specs.declared.Outcome.{Outcome}
 use Rattle.plan.specs.Sizes.{Small}
 use Rattle.plan.specs.Plan.{plan}
 use Rattle.result.specs.Refusal.{earlyRefusal}

@@ -5,7 +5,7 @@ use cmap_promise::FateKind;
 use plan::Outcome;
 use plan::Why;
 ghost use mathlib.Core.Path.{_≡_};
-ghost use Prim.Native.Nat.{_<_, _≤_};
+ghost use Prim.Native.Nat.{_<_};
 ghost use Rattle.source_header.specs.Header.{recordCount};
 ghost use Rattle.plan.specs.Notes.{outcomesIn};
 ghost use Rattle.result.specs.Layout.{placeBySizes};

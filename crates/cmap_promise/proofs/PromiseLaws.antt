@@ -5,7 +5,7 @@ use mathlib.Core.List.{List, _∷_, _++_}
 use mathlib.Core.Bool.{Bool, true, false}
 use native.Mathlib.Omega.{arith}
 use lib.Dec.{ltb, eqb}
-use lib.ListN.{length, getD, take, drop, length-append}
+use lib.ListN.{length, take, drop, length-append}
 use lib.Seq.{take-at}
 use borrow.Author.Tests.{eqb-true, eqb-false, eq-eqb, ltb-true, ltb-false, le-ltb}
 use Rattle.laws.specs.Choice.{pick}
@@ -14,9 +14,7 @@ use Rattle.laws.proofs.ChoiceLaws.{by-pick, by-leb, false-true}
 use Rattle.laws.proofs.AnyLaws.{anyOf-some}
 use Rattle.laws.proofs.SomeLaws.{some-false}
 use Rattle.plan.proofs.OutcomesLaws.{length-plan}
-use Rattle.number.specs.Limits.{recordsMax}
 use Rattle.source_header.specs.Header.{recordCount}
-use Rattle.source_header.proofs.HeaderLaws.{accepted-of}
 use Rattle.plan_listing.specs.Job.{Job}
 use Rattle.plan.specs.declared.Outcome.{Outcome}
 use Rattle.plan.specs.declared.Why.{Why}

@@ -4,12 +4,11 @@ use mathlib.Core.Path.{_≡_, sym, ap, _∙_}
 use mathlib.Core.List.{List}
 use mathlib.Core.Bool.{Bool, true, false, not}
 use lib.ListN.{length, getD}
-use Rattle.laws.specs.Choice.{both, either}
+use Rattle.laws.specs.Choice.{either}
 use Rattle.laws.specs.Search.{some}
-use Rattle.laws.specs.Select.{anyOf}
 use Rattle.laws.proofs.AnyLaws.{anyOf-some}
 use Rattle.laws.proofs.SearchLaws.{Asking, asking-start, asking-on, asking-yes, asking-no}
-use Rattle.source_records.specs.Records.{Counted, Placed, leadsToFormat}
+use Rattle.source_records.specs.Records.{Counted, leadsToFormat}
 use Rattle.source_records.proofs.RecordsLaws.{placed}
 use Rattle.plan.specs.declared.Why.the-variants.{NotRetained}
 use Rattle.plan.specs.declared.Outcome.{Outcome}

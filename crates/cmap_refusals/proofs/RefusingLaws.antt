@@ -8,7 +8,7 @@ use Rattle.laws.specs.Choice.{ifEq}
 use Rattle.number.specs.BigEndian.{Bytes}
 use Rattle.source_header.specs.declared.Header.{Header}
 use Rattle.source_header.specs.declared.Header.the-variants.{Records, Refused}
-use Rattle.source_header.specs.Header.{recordCount, headerOf}
+use Rattle.source_header.specs.Header.{headerOf}
 use Rattle.source_header.proofs.HeaderLaws.{accepted-of, not-refused, tells-records, tells-refused}
 use Rattle.source_records.specs.Records.{Counted}
 use Rattle.lists_checks.proofs.SizesLaws.{sizes, codes-rise, kept-rise, kept-low, requested-rise}

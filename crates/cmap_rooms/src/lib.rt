@@ -8,11 +8,11 @@ ghost use mathlib.Core.Path.{_≡_};
 ghost use lib.ListN.{length};
 ghost use Rattle.source_header.specs.Header.{recordCount};
 ghost use Rattle.plan_listing.specs.Job.{job};
-ghost use Rattle.plan.specs.Notes.{outcomesIn, Fronted, Endings};
+ghost use Rattle.plan.specs.Notes.{outcomesIn};
 ghost use Rattle.plan.specs.Prepared.{Prepared};
 ghost use Rattle.cmap_promise.specs.Cmap.{answerOf, outputOf};
 ghost use Rattle.cmap_promise.specs.Fates.{fateOf};
-ghost use Rattle.cmap_concluding.specs.Concluding.{Passing, Planned, answerBy};
+ghost use Rattle.cmap_concluding.specs.Concluding.{Passing, answerBy};
 ghost use Rattle.cmap_rooms.specs.Rooms.{FitsRoom, Writes};
 
 // Room that is enough for most jobs, and cleared in no time.

@@ -5,7 +5,7 @@ use mathlib.Core.List.{List, [], _∷_}
 use mathlib.Core.Bool.{Bool, true, false, not}
 use native.Mathlib.Nat.{zero-add}
 use native.Mathlib.Omega.{arith}
-use lib.Dec.{ltb, leb, eqb}
+use lib.Dec.{leb, eqb}
 use lib.ListN.{length, getD, take, drop, length-drop, drop-of-length-le}
 use lib.Seq.{sets, take-all}
 use Rattle.laws.specs.Choice.{pick, both, either}
@@ -15,12 +15,12 @@ use Rattle.laws.proofs.AnyLaws.{some-ext, anyOf-some}
 use Rattle.laws.proofs.ChoiceLaws.{by-pick, by-leb, false-true}
 use Rattle.laws.proofs.RisingLaws.{rising-tail}
 use Rattle.laws.proofs.SetsLaws.{getD-sets-in}
-use Rattle.lists_marks.specs.Marks.{below, flagged, flagOf, Bound}
+use Rattle.lists_marks.specs.Marks.{below, flagged, flagOf, Bound, isSet}
 use Rattle.lists_marks.proofs.MarksLaws.{length-flagged}
 use Rattle.lists_marks.proofs.BelowLaws.{below-tail}
 use Rattle.plan_listing.specs.Listing.{maps, PointsFlagged}
 use Rattle.plan.specs.Covered.{reachesAbove, mapAlike, siblingCovers}
-use Rattle.plan.specs.CoveredFlags.{flagSet, someSet, isOther, flagsDiffer, CoveredRoom}
+use Rattle.plan.specs.CoveredFlags.{someSet, isOther, flagsDiffer, CoveredRoom}
 use Rattle.plan.specs.Sibling.{firstSibling}
 use borrow.Author.Tests.{lt-ltb, le-ltb, le-leb, lt-leb, eq-eqb, ne-eqb}
 
@@ -45,11 +45,11 @@ told ps m fs₀ fs room e = record {
 set-told : (ps : List ℕ) (m : ℕ → Bool) (fs : List ℕ) → Told ps m fs → someSet fs (length ps) ≡ anyOf m ps
 unfolding someSet
 set-told ps m fs t =
-    some-ext (flagSet fs) (λ i. m (getD ps i 0)) (length ps) 0
+    some-ext (isSet fs) (λ i. m (getD ps i 0)) (length ps) 0
     (λ i a b. rw (t .flag-at i (omega arith)) (go (m (getD ps i 0))))
     ∙ sym (anyOf-some m 0 ps)
   where
-    go : (t : Bool) → ltb 0 (flagOf t) ≡ t
+    go : (t : Bool) → not (eqb (flagOf t) 0) ≡ t
     go true = refl
     go false = refl
 

@@ -1,14 +1,15 @@
 -- The parts of the notes: an outcome that is noted is told, and what is stored in one part leaves the others.
-use Prim.Native.Nat.{ℕ, zero, suc, _+_, _*_, _-_, _/_, _%_, _<_, _≤_}
+use Prim.Native.Nat.{ℕ, _+_, _*_, _-_, _/_, _%_, _<_, _≤_}
 use mathlib.Core.Path.{_≡_, refl, sym, ap, _∙_}
-use mathlib.Core.List.{List, [], _∷_, _++_, map, append-nil}
+use mathlib.Core.List.{List, [], _∷_, _++_, map, map-append, append-nil}
 use native.Mathlib.Numerals.{add-one}
 use native.Mathlib.Omega.{arith}
-use lib.ListN.{length, getD, set, take, drop, length-take, length-drop, drop-of-length-le}
+use lib.ListN.{length, getD, set, take, drop, length-drop, drop-of-length-le}
 use lib.Seq.{length-take-le, take-suc-set, take-set-le, take-set-lt, drop-set-lt, drop-set-add, take-take, take-add, take-append-le, drop-append-le, drop-at, getD-take}
 use borrow.Author.Tests.{ne-eqb}
 use Rattle.laws.specs.Choice.{ifEq}
 use Rattle.laws.proofs.LengthLaws.{length-map}
+use Rattle.laws.proofs.ReadLaws.{getD-map}
 use Rattle.number.specs.Limits.{recordsMax}
 use Rattle.plan.specs.declared.Why.the-variants.{NotRetained, Skipped, Empty, TooLong, Covered}
 use Rattle.plan.specs.declared.Outcome.{Outcome}
@@ -77,15 +78,6 @@ pub ruleset telling = (told-1, told-2, told-3, told-4, told-5, told-6, told-7)
 
 -- ---- the outcomes
 
-getD-map : {A B : Type 0} (f : A → B) (xs : List A) (i : ℕ) (d : A) → getD (map f xs) i (f d) ≡ f (getD xs i d)
-getD-map f [] i d = refl
-getD-map f (x ∷ xs) zero d = refl
-getD-map f (x ∷ xs) (suc i) d = getD-map f xs i d
-
-map-snoc : {A B : Type 0} (f : A → B) (xs : List A) (a : A) → map f (xs ++ (a ∷ [])) ≡ map f xs ++ (f a ∷ [])
-map-snoc f [] a = refl
-map-snoc f (x ∷ xs) a = ap (λ ys. f x ∷ ys) (map-snoc f xs a)
-
 at-told : (xs : List ℕ) (i : ℕ) → at (map tells xs) i ≡ tells (getD xs i 0)
 unfolding tells toldBy ifEq
 at-told xs i = getD-map tells xs i 0
@@ -103,7 +95,7 @@ pub noted-on : (notes : List ℕ) (k : ℕ) (o : Outcome) → k < length notes �
 unfolding outcomesIn
 noted-on notes k o h =
     rw (add-one k, take-suc-set notes k (noted o) h)
-    (map-snoc tells (take k notes) (noted o) ∙ ap (λ (z : Outcome). map tells (take k notes) ++ (z ∷ [])) (tells-noted o))
+    (map-append tells (take k notes) (noted o ∷ []) ∙ ap (λ (z : Outcome). map tells (take k notes) ++ (z ∷ [])) (tells-noted o))
 
 -- they depend on the row alone
 pub row-tells : (before after : List ℕ) (k : ℕ) → k ≤ recordsMax → rowIn after ≡ rowIn before → outcomesIn k after ≡ outcomesIn k before

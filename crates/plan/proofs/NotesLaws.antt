@@ -22,7 +22,7 @@ use Rattle.plan.specs.declared.Outcome.the-variants.{LeftOut, BadMapping
 use Rattle.plan.specs.Outcomes.{at, isMade, serves, server}
 use Rattle.plan.specs.Twins.{cameToNothing, isSpent, spent}
 use Rattle.plan.specs.Notes.{tells, outcomesIn, rowIn, frontsIn, endsIn, Fronted, Ended, Endings, Notebook, Leaves, Turned, Stays}
-use Rattle.plan.proofs.OutcomesLaws.{getD-before}
+use Rattle.laws.proofs.ReadLaws.{getD-before}
 use Rattle.plan.proofs.NotedLaws.{at-noted}
 use Rattle.plan.proofs.RecordNotesLaws.{fronted-same}
 

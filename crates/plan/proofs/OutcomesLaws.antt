@@ -1,16 +1,17 @@
 -- The list of outcomes: what is worked out stays, and by which way it came.
 use Prim.Native.Nat.{ℕ, zero, suc, _<_, _≤_}
 use mathlib.Core.Path.{_≡_, refl, _∙_}
-use mathlib.Core.List.{List, [], _∷_, _++_}
+use mathlib.Core.List.{List, [], _∷_}
 use mathlib.Core.Bool.{Bool, true, false}
 use native.Mathlib.Omega.{arith}
 use lib.Dec.{ltb}
-use lib.ListN.{length, getD, length-append}
+use lib.ListN.{length, length-append}
 use lib.Seq.{getD-at}
 use borrow.Author.Tests.{ltb-true, ltb-false}
 use Rattle.laws.specs.Choice.{pick}
 use Rattle.laws.specs.Search.{first}
 use Rattle.laws.proofs.ChoiceLaws.{by-pick, by-leb}
+use Rattle.laws.proofs.ReadLaws.{getD-before, getD-past}
 use Rattle.source_header.specs.Header.{recordCount}
 use Rattle.source_records.specs.Records.{retained}
 use Rattle.plan_listing.specs.Job.{Job, glyphCount}
@@ -21,18 +22,6 @@ use Rattle.plan.specs.declared.Outcome.the-variants.{LeftOut, Served}
 use Rattle.plan.specs.Outcomes.{at, server as earliest, serves}
 use Rattle.plan.specs.Fresh.{fresh}
 use Rattle.plan.specs.Plan.{retainedOutcome, outcomeOf, outcomes, plan}
-
--- ---- a list that grows
-
-pub getD-before : {A : Type 0} (xs ys : List A) (i : ℕ) (d : A) → i < length xs → getD (xs ++ ys) i d ≡ getD xs i d
-getD-before [] ys i d h = absurd (omega arith)
-getD-before (x ∷ xs) ys zero d h = refl
-getD-before (x ∷ xs) ys (suc i) d h = getD-before xs ys i d (omega arith)
-
-pub getD-past : {A : Type 0} (xs : List A) (i : ℕ) (d : A) → length xs ≤ i → getD xs i d ≡ d
-getD-past [] i d h = refl
-getD-past (x ∷ xs) zero d h = absurd (omega arith)
-getD-past (x ∷ xs) (suc i) d h = getD-past xs i d (omega arith)
 
 -- ---- the outcomes
 

@@ -1,13 +1,11 @@
 -- The walk over the records: what is noted so far is the list of outcomes so far.
 use Prim.Native.Nat.{ℕ, suc, _+_, _<_, _≤_}
-use mathlib.Core.Path.{_≡_, refl, sym, ap, subst, _∙_}
+use mathlib.Core.Path.{_≡_, refl, ap, _∙_}
 use mathlib.Core.List.{List, [], _∷_, _++_}
 use native.Mathlib.Numerals.{add-one}
 use native.Mathlib.Omega.{arith}
-use lib.Dec.{eqb}
-use lib.ListN.{length, getD, set, take, replicate, length-set, length-replicate}
+use lib.ListN.{length, set, length-set}
 use lib.Seq.{getD-at}
-use borrow.Author.Tests.{eqb-true, eqb-false}
 use Rattle.laws.proofs.ChoiceLaws.{by-leb}
 use Rattle.number.specs.Limits.{recordsMax}
 use Rattle.source_header.specs.Header.{recordCount}
@@ -22,9 +20,9 @@ use Rattle.plan.specs.Making.{Ready}
 use Rattle.plan.specs.CoveredFlags.{CoveredRoom}
 use Rattle.plan.specs.Plan.{outcomeOf, outcomes, plan}
 use Rattle.plan.specs.Prepared.{Prepared}
-use Rattle.plan.specs.Notes.{noted, outcomesIn, rowIn, frontsIn, endsIn, notesMax, Fronted, Endings, Notebook, Leaves, Stays}
+use Rattle.plan.specs.Notes.{noted, outcomesIn, Fronted, Endings, Notebook, Leaves, Stays}
 use Rattle.plan.specs.Earlier.{Earlier}
-use Rattle.plan.proofs.OutcomesLaws.{getD-before, getD-past, length-outcomes}
+use Rattle.laws.proofs.ReadLaws.{getD-before, getD-past}
 use Rattle.plan.proofs.NotedLaws.{length-noted, noted-on, row-tells, fronts-row, ends-row}
 use Rattle.plan.proofs.RecordNotesLaws.{fronted-same}
 use Rattle.plan.proofs.NotesLaws.{endings-start, endings-on, endings-same}

@@ -1,11 +1,11 @@
 -- What is noted of a record, by the kind of its subtable.
 use Prim.Native.Nat.{ℕ, _+_, _*_, _-_, _<_, _≤_}
 use mathlib.Core.Path.{_≡_, refl, sym, ap, _∙_}
-use mathlib.Core.List.{List, [], _++_, append-nil}
+use mathlib.Core.List.{List}
 use mathlib.Core.Logic.{inl, inr}
 use native.Mathlib.Omega.{arith}
 use lib.Dec.{eqb}
-use lib.ListN.{length, getD, set, take, drop, length-set, length-drop, replicate, length-replicate}
+use lib.ListN.{length, getD, set, drop, length-set, length-drop, replicate, length-replicate}
 use lib.Seq.{length-take-le, getD-set-same, getD-set-other}
 use borrow.Author.Tests.{eqb-true, eqb-false}
 use Rattle.laws.proofs.ChoiceLaws.{by-test}
@@ -16,15 +16,15 @@ use Rattle.source.specs.declared.Kind.the-variants.{Format4, Format12, Format14
 use Rattle.source_header.specs.Header.{offsetOf}
 use Rattle.source.specs.Kind.{formatOf}
 use Rattle.source_records.specs.Records.{leadsTo}
-use Rattle.plan_listing.specs.Job.{Job, job, glyphCount}
+use Rattle.plan_listing.specs.Job.{Job, job}
 use Rattle.laws.proofs.ReadLaws.{getD-row}
 use Rattle.plan.specs.Making.{Fronts}
 use Rattle.format14.specs.Selectors.{job14}
 use Rattle.format14.specs.ByNumber.{slot}
 use Rattle.format14.specs.Ends.{Ends}
 use Rattle.plan.specs.declared.Outcome.{Outcome}
-use Rattle.plan.specs.Notes.{rowIn, frontsIn, endsIn, notesMax, Fronted, Turned, Leaves}
-use Rattle.plan.proofs.NotedLaws.{row-front, fronts-front, ends-front, row-ends, fronts-ends, ends-ends}
+use Rattle.plan.specs.Notes.{frontsIn, endsIn, notesMax, Fronted, Turned}
+use Rattle.plan.proofs.NotedLaws.{row-front, fronts-front, ends-front}
 
 -- ---- the first pairs of the lent columns
 

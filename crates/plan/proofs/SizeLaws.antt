@@ -1,5 +1,5 @@
 -- What it tells of an outcome that it is "made", or is not.
-use Prim.Native.Nat.{ℕ, _≤_}
+use Prim.Native.Nat.{_≤_}
 use mathlib.Core.Path.{_≡_, refl, sym}
 use mathlib.Core.Bool.{true, false}
 use native.Mathlib.Omega.{arith}

@@ -2,18 +2,16 @@
 use Prim.Native.Nat.{ℕ, _≤_, _<_}
 use mathlib.Core.List.{List}
 use mathlib.Core.Bool.{Bool, not}
-use lib.Dec.{ltb, eqb}
+use lib.Dec.{eqb}
 use lib.ListN.{length, getD}
 use Rattle.laws.specs.Lists.{Rising}
 use Rattle.laws.specs.Search.{some}
+use Rattle.lists_marks.specs.Marks.{isSet}
 use Rattle.source_records.specs.Records.{Counted}
 
 -- one of the first n flags is set
-abbrev pub flagSet : List ℕ → ℕ → Bool
-flagSet flags i = ltb 0 (getD flags i 0)
-
 unfoldable pub someSet : List ℕ → ℕ → Bool
-someSet flags n = some (flagSet flags) n 0
+someSet flags n = some (isSet flags) n 0
 
 -- two flags of the first n that are not the same
 abbrev pub isOther : List ℕ → List ℕ → ℕ → Bool

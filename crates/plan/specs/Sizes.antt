@@ -1,5 +1,5 @@
 -- Inner: how long the tables are that a plan says are made, and what is asked of an outcome's number; no promise names it.
-use Prim.Native.Nat.{ℕ, zero, suc, _+_, _*_, _-_, _<_}
+use Prim.Native.Nat.{ℕ, _-_, _<_}
 use mathlib.Core.List.{List}
 use lib.ListN.{length}
 use Rattle.number.specs.Limits.{recordsMax}

@@ -2,7 +2,7 @@
 ghost use mathlib.Core.Path.{_≡_};
 ghost use Prim.Native.Nat.{_≤_};
 ghost use lib.ListN.{length};
-ghost use lib.Dec.{ltb, eqb};
+ghost use lib.Dec.{eqb};
 ghost use mathlib.Core.Bool.{not};
 ghost use Rattle.laws.specs.Select.{anyOf};
 ghost use Rattle.source_records.specs.Records.{Placed};
@@ -11,9 +11,9 @@ ghost use Rattle.plan.specs.Covered.{reachesAbove, siblingCovers, covered};
 ghost use Rattle.plan.specs.CoveredFlags.{someSet, flagsDiffer, CoveredRoom};
 
 fn is_set(flag: u8) -> bool
-    ensures { λ r. ⌜ r ≡ ltb 0 flag ⌝ }
+    ensures { λ r. ⌜ r ≡ not (eqb flag 0) ⌝ }
 {
-    0 < flag
+    flag != 0
 }
 
 // Whether one of the first n flags is set.

@@ -18,19 +18,17 @@ use Rattle.source.specs.Kind.{formatOf}
 use Rattle.source_records.specs.Records.{leadsTo}
 use Rattle.plan_listing.specs.Job.{Job}
 use Rattle.plan.specs.declared.Outcome.{Outcome}
-use Rattle.plan.specs.declared.Why.the-variants.{NotRetained, Skipped, Empty, TooLong, Covered}
+use Rattle.plan.specs.declared.Why.the-variants.{NotRetained}
 use Rattle.plan.specs.declared.Outcome.the-variants.{LeftOut, BadMapping, Served, Made}
 use Rattle.plan.specs.Outcomes.{isMade}
-use Rattle.plan.specs.Sizes.{madeSize}
 use Rattle.plan.specs.Fresh.{tableOf}
-use Rattle.plan.proofs.SizeLaws.{unmade-size}
 use Rattle.result.specs.Result.{countFrom, writtenCount, newOffset, recordBytes, recordsFrom, tablesFrom, resultOf, tablesStart}
-use Rattle.result.specs.Layout.{sizesFrom, resultLength, placeBySizes}
+use Rattle.result.specs.Layout.{resultLength, placeBySizes}
 use Rattle.plan.specs.Outcomes.{isWritten, makerOf, at}
-use Rattle.result.proofs.CountLaws.{Ith, count-few, sizes-split, sizes-snoc}
-use Rattle.result.proofs.LengthLaws.{size-made, length-record, length-records, length-result, offset-place}
+use Rattle.result.proofs.CountLaws.{Ith, count-few, sizes-split}
+use Rattle.result.proofs.LengthLaws.{length-record, length-records, length-result, offset-place}
 use Rattle.laws.specs.Choice.{pick}
-use Rattle.plan.proofs.OutcomesLaws.{getD-past}
+use Rattle.laws.proofs.ReadLaws.{getD-past}
 
 -- record m, not after record k, made the table that record k is written with
 pub record Maker (xs : List ℕ) (os : List Outcome) (k m : ℕ) : Type 0 where

@@ -3,19 +3,17 @@ use Prim.Native.Nat.{ℕ, _<_, _≤_}
 use mathlib.Core.Path.{_≡_, refl, sym, ap, _∙_}
 use mathlib.Core.Bool.{Bool, true, false}
 use native.Mathlib.Omega.{arith}
-use lib.ListN.{getD}
 use borrow.Author.Tests.{eqb-true, eq-eqb}
 use Rattle.laws.specs.Choice.{both}
 use Rattle.laws.proofs.ChoiceLaws.{by-leb, both-left, both-right, false-true}
 use Rattle.laws.proofs.FirstLaws.{first-holds, first-none}
-use Rattle.number.specs.Limits.{recordsMax}
 use Rattle.source_header.specs.Header.{recordCount}
 use Rattle.source.specs.Kind.{formatOf}
 use Rattle.source_records.specs.Records.{leadsTo, leadsToFormat, retained}
 use Rattle.plan_listing.specs.Job.{Job, glyphCount}
 use Rattle.plan.specs.Covered.{covered}
 use Rattle.plan.specs.declared.Outcome.{Outcome}
-use Rattle.plan.specs.declared.Why.the-variants.{NotRetained, Skipped, Empty, TooLong, Covered}
+use Rattle.plan.specs.declared.Why.the-variants.{NotRetained, Covered}
 use Rattle.plan.specs.declared.Outcome.the-variants.{LeftOut, BadMapping, Served, Made}
 use Rattle.plan.specs.Outcomes.{isMade, serves, at}
 use Rattle.plan.specs.Sizes.{madeSize}

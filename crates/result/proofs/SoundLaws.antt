@@ -29,7 +29,7 @@ use Rattle.result.specs.Lent.{Lent}
 use Rattle.result.proofs.ListedLaws.{above-listed}
 use Rattle.result.proofs.MadeLaws.{made-length, by-format, made-written4, table-is}
 use Rattle.result.proofs.TablesLaws.{made-short}
-use Rattle.result.proofs.PlanLaws.{Making, plan-past, plan-made, plan-served}
+use Rattle.result.proofs.PlanLaws.{Making, plan-made, plan-served}
 use Rattle.result.specs.Result.{makes}
 use Rattle.result.specs.Layout.{sizesFrom}
 use Rattle.plan.specs.Outcomes.{at}

@@ -1,6 +1,5 @@
 -- Inner: where tables stand and how long a result is, by the lengths that a plan holds; no promise names it.
-use Prim.Native.Nat.{ℕ, zero, suc, _+_, _-_, _≤_}
-use mathlib.Core.Path.{_≡_}
+use Prim.Native.Nat.{ℕ, zero, suc, _+_, _-_}
 use mathlib.Core.List.{List}
 use lib.ListN.{length}
 use Rattle.plan.specs.declared.Outcome.{Outcome}

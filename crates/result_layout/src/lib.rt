@@ -2,7 +2,6 @@
 ghost use mathlib.Core.Path.{_≡_};
 ghost use Prim.Native.Nat.{_+_, _-_, _*_, _≤_, _<_};
 ghost use lib.ListN.{length};
-ghost use Rattle.plan.specs.Sizes.{Small};
 ghost use Rattle.plan.specs.Notes.{outcomesIn};
 ghost use Rattle.result.specs.Result.{writtenCount};
 ghost use Rattle.result.specs.Layout.{sizesFrom, placeBySizes, resultLength};

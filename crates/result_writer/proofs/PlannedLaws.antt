@@ -1,5 +1,5 @@
 -- What writing asks for, of the plan of a job that may be worked on.
-use Prim.Native.Nat.{ℕ, _<_, _≤_}
+use Prim.Native.Nat.{ℕ, _<_}
 use mathlib.Core.Path.{_≡_, refl, sym, ap, _∙_}
 use mathlib.Core.List.{List}
 use mathlib.Core.Bool.{true}
@@ -9,24 +9,19 @@ use Rattle.laws.proofs.ChoiceLaws.{by-leb, false-true}
 use Rattle.source_header.specs.Header.{recordCount}
 use Rattle.plan_listing.specs.Job.{Job}
 use Rattle.plan.specs.declared.Outcome.{Outcome}
-use Rattle.plan.specs.declared.Why.the-variants.{NotRetained, Skipped, Empty, TooLong, Covered}
 use Rattle.plan.specs.declared.Outcome.the-variants.{LeftOut, BadMapping, Served, Made}
 use Rattle.plan.specs.Outcomes.{isMade}
-use Rattle.plan.specs.Sizes.{madeSize, Small}
+use Rattle.plan.specs.Sizes.{madeSize}
 use Rattle.plan.specs.Fresh.{tableOf}
 use Rattle.plan.specs.Making.{Ready}
 use Rattle.plan.specs.Plan.{plan}
-use Rattle.plan.specs.Prepared.{Prepared}
 use Rattle.plan.proofs.PlanLaws.{ready, prepared-again}
 use Rattle.result.proofs.MadeLaws.{made-length}
 use Rattle.result.proofs.PlanLaws.{Making, plan-past, plan-made, plan-served}
-use Rattle.result.specs.Result.{writtenCount, resultOf}
-use Rattle.result.specs.Layout.{resultLength}
 use Rattle.plan.specs.Outcomes.{isWritten, makerOf, at}
 use Rattle.plan.proofs.SizeLaws.{made-size}
 use Rattle.result_writer.specs.RecordParts.{Laid}
 use Rattle.result_writer.specs.Writing.{WritesPlan}
-use Rattle.result.proofs.LengthLaws.{length-result}
 use Rattle.plan.specs.Notes.{outcomesIn}
 
 -- the record whose table record k is written with is k itself or one before it

@@ -1,6 +1,5 @@
 use Rattle.cmap_concluding.proofs.FateLaws.{concluding}
 use Rattle.cmap_concluding.proofs.AnswerLaws.{ways-out}
-use borrow.Author.Needs.{needs}
 use Rattle.cmap_concluding.proofs.answer_by.Statement.{statement}
 use Rattle.cmap_concluding.proofs.answer_by.Tie as tie
 

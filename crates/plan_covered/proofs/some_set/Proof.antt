@@ -1,4 +1,5 @@
-use Rattle.plan.specs.CoveredFlags.{flagSet, someSet}
+use Rattle.lists_marks.specs.Marks.{isSet}
+use Rattle.plan.specs.CoveredFlags.{someSet}
 use Rattle.laws.proofs.SearchLaws.{Asking, asking}
 use native.Mathlib.Omega.{arith}
 use Prim.Native.Nat.{_-_}
@@ -7,7 +8,7 @@ use Rattle.plan_covered.proofs.some_set.Statement.{statement}
 use Rattle.plan_covered.proofs.some_set.Tie as tie
 
 abbrev Inv-loop : tie.InvT-loop
-Inv-loop flags n i₀ i = Asking (flagSet flags) n i
+Inv-loop flags n i₀ i = Asking (isSet flags) n i
 
 abbrev μ-loop : tie.MeasureT-loop
 μ-loop flags n i₀ i = n - i
