@@ -26,15 +26,16 @@ def crate_times(path):
 def speed(directory):
     counts = {r[0]: r[1:] for r in rows(directory + "/count.csv")}
     crate = crate_times(directory + "/crate.csv")
-    print("| job | library µs | HarfBuzz µs | HarfBuzz / library | prepared µs | crate µs | library instructions | of which clearing | HarfBuzz instructions | HarfBuzz / library |")
+    print("| job | library µs | HarfBuzz µs | HarfBuzz / library | prepared µs | crate µs | library instructions | clearing | HarfBuzz instructions | HarfBuzz / library |")
     print("|---|---:|---:|---:|---:|---:|---:|---:|---:|---:|")
     for job, name, _, _, a, b, ratio, prepared, _, _ in rows(directory + "/speed.csv"):
-        ours, cleared, theirs, _ = counts[job]
+        ours, cleared, theirs, theirs_cleared = map(int, counts[job])
+        ours, theirs = ours - cleared, theirs - theirs_cleared  # callgrind may count a byte that memset clears as an instruction
         its = number(crate[job]) if job in crate else ""
         if float(b) < 0:  # HarfBuzz gives no result
-            print(f"| {name} | {number(a)} | none | | none | {its} | {int(ours):,} | {int(cleared):,} | | |")
+            print(f"| {name} | {number(a)} | none | | none | {its} | {ours:,} | {cleared:,} | | |")
             continue
-        print(f"| {name} | {number(a)} | {number(b)} | {ratio} | {number(prepared)} | {its} | {int(ours):,} | {int(cleared):,} | {int(theirs):,} | {int(theirs) / int(ours):.2f} |")
+        print(f"| {name} | {number(a)} | {number(b)} | {ratio} | {number(prepared)} | {its} | {ours:,} | {cleared:,} | {theirs:,} | {theirs / ours:.2f} |")
 
 
 def hostile(path):
