@@ -81,7 +81,7 @@ module _ (kept requested glyphs : List ℕ) (c : ℕ) where
 pub all_stay : (kept requested : List ℕ) (c : ℕ) → holds kept c ≡ true → (gs : List ℕ) → staying_glyphs kept requested c gs ≡ gs
 unfolding select
 all_stay kept requested c e [] = refl
-all_stay kept requested c e (g ∷ gs) = rw e (ap (λ (l : List ℕ). g ∷ l) (rw e at (all_stay kept requested c e gs)))
+all_stay kept requested c e (g ∷ gs) = rw e (ap (λ (l : List ℕ). g ∷ l) (all_stay kept requested c e gs))
 
 any_ext : {A B : Type 0} (p : A → Bool) (q : B → Bool) (f : B → A) → ((x : B) → p (f x) ≡ q x) → (xs : List B) → any_of p (map f xs) ≡ any_of q xs
 unfolding any_of

@@ -47,7 +47,7 @@ room_next {w} {k} x xs r =
 room_back : {w : RangeWriter} {k l : ℕ} (a b : List Segment) → SegmentsRoom w (a ++ b) k l → SegmentsRoom (moved_by w a) b k l
 unfolding moved_by
 room_back [] b r = r
-room_back (x ∷ a) b r = room_back a b (room_next x (a ++ b) r)
+room_back {w = w} {k = k} {l = l} (x ∷ a) b r = room_back {w = next_of w x} a b (room_next x (a ++ b) r)
 
 -- ---- stores
 
