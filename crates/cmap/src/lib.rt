@@ -1,4 +1,6 @@
 // A cmap cut down to the listed code points, and what became of each of its records.
+#![tactic(auto)]
+
 ghost use Rattle.std.specs.Prelude.{◌≡◌, length};
 ghost use Rattle.plan_listing.specs.Job.{job};
 ghost use Rattle.cmap_promise.specs.Cmap.{answer_of, output_of};

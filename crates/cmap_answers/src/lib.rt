@@ -1,1 +1,2 @@
 // No code: what both heads give of a result is what the job lists.
+#![tactic(auto)]

@@ -1,4 +1,6 @@
 // What a plan comes to: the answer, with refusals 8, 9 and 10, then length and record count of the result; and a record's fate.
+#![tactic(auto)]
+
 ghost use Rattle.std.specs.Prelude.{◌≡◌, ◌<◌};
 ghost use Rattle.source_header.specs.Header.{record_count};
 ghost use Rattle.plan.specs.Notes.{outcomes_in};

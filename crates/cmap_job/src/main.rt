@@ -1,4 +1,6 @@
 // Reads a job from standard input and writes the answer to standard output.
+#![tactic(auto)]
+
 use job::INPUT_ROOM;
 
 fn main() {

@@ -1,7 +1,8 @@
 // What a call promises: its answer, its output, and what became of each record. Definitions and laws; `cmap` keeps the promise.
+#![tactic(auto)]
 
 // Refused holds a number from 1 to 9, NoRoom the length that the output would need.
-#[derive(Drop)]
+#[derive(Clone, Copy)]
 pub enum Answer {
     Written { bytes: usize, records: usize },
     Refused(u8),
@@ -9,7 +10,7 @@ pub enum Answer {
 }
 
 // Refused holds a number from 1 to 9.
-#[derive(Drop)]
+#[derive(Clone, Copy)]
 pub enum FateKind {
     NotRetained,
     Skipped,
@@ -21,7 +22,7 @@ pub enum FateKind {
     NoSuchRecord,
 }
 
-#[derive(Drop)]
+#[derive(Clone, Copy)]
 pub struct Fate {
     pub platform: u32,
     pub encoding: u32,

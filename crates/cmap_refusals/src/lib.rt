@@ -1,4 +1,6 @@
 // The refusals in their order: 1 to 7 of what is lent, 8 and 9 of a plan.
+#![tactic(auto)]
+
 ghost use Rattle.std.specs.Prelude.{◌≡◌, ◌<◌, ◌≤◌, length};
 ghost use Rattle.laws.specs.Choice.{if_eq, either};
 ghost use Rattle.source_records.specs.Records.{Counted, leads_to_format, Placed};

@@ -1,5 +1,7 @@
 // A job that refusals 1 to 7 let pass, worked out in room of its own: a small room where that is enough, since clearing a large one takes longer
 // than most jobs.
+#![tactic(auto)]
+
 ghost use Rattle.std.specs.Prelude.{◌≡◌, length};
 ghost use Rattle.source_header.specs.Header.{record_count};
 ghost use Rattle.plan_listing.specs.Job.{job};

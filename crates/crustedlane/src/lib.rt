@@ -1,4 +1,6 @@
-// What a host links: the two calls over pair records, and the two print heads. Any sizes and any bytes get an answer.
+// What a host calls: the two calls over pair records, and the two print heads. Any sizes and any bytes get an answer.
+#![tactic(auto)]
+
 ghost use Rattle.std.specs.Prelude.{◌≡◌, ◌≤◌, length, take};
 ghost use Rattle.plan_listing.specs.Job.{job};
 ghost use Rattle.cmap_promise.specs.Cmap.{answer_of, output_of};
@@ -12,15 +14,13 @@ use host_told::{FateAnswer, HeadAnswer, SubsetAnswer};
 
 // ---- the print heads
 
-#[unsafe(no_mangle)]
-pub extern "C" fn cmap_old_head(table: &[u8], c: u32) -> HeadAnswer
+pub fn cmap_old_head(table: &[u8], c: u32) -> HeadAnswer
     ensures { result ≡ told_head (old_head table.now c) }
 {
     host_told::old_head(table, c)
 }
 
-#[unsafe(no_mangle)]
-pub extern "C" fn cmap_new_head(table: &[u8], c: u32) -> HeadAnswer
+pub fn cmap_new_head(table: &[u8], c: u32) -> HeadAnswer
     ensures { result ≡ told_head (new_head table.now c) }
 {
     host_told::new_head(table, c)
@@ -64,10 +64,9 @@ fn fate_on_room(
     host_told::tell_fate(cmap::fate_of(source, &codes[..n], &glyphs[..n], kept, map, requested, k))
 }
 
-// ---- the calls, by hand: whoever holds a slice of records is not covered (tools/entry writes the two proofs)
+// ---- the calls
 
-#[unsafe(no_mangle)]
-pub extern "C" fn cmap_subset(
+pub fn cmap_subset(
     source: &[u8],
     pairs: &[PairRecord],
     codes: &mut [u32],
@@ -102,8 +101,7 @@ pub extern "C" fn cmap_subset(
     subset_on_room(source, codes, glyphs, n, kept, map, requested, out)
 }
 
-#[unsafe(no_mangle)]
-pub extern "C" fn cmap_fate(
+pub fn cmap_fate(
     source: &[u8],
     pairs: &[PairRecord],
     codes: &mut [u32],

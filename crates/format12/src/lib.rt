@@ -1,17 +1,19 @@
 // The groups of a cmap format 12 subtable, one run of the listed pairs each: how many there are, and how long they make the subtable.
+#![tactic(auto)]
+
 ghost use Rattle.std.specs.Prelude.{◌≡◌, length};
 ghost use Rattle.laws.specs.Lists.{pairs};
 ghost use Rattle.format12.specs.Format12.{groups, size_of12, Columns};
 
 // Code points start to end; the first has this glyph, each next one the next.
-#[derive(Drop)]
+#[derive(Clone, Copy)]
 pub struct Group {
     pub start: u32,
     pub end: u32,
     pub glyph: u16,
 }
 
-#[derive(Drop)]
+#[derive(Clone, Copy)]
 pub struct Size12 {
     pub groups: usize,
     pub bytes: usize,

@@ -1,5 +1,7 @@
 // Which of a rising list of code points a format 12 subtable maps, in one walk over its groups. A group sets a stretch of flags; blocks of them
 // that are known to be full are passed over.
+#![tactic(auto)]
+
 ghost use Rattle.std.specs.Prelude.{◌≡◌, ◌+◌, ◌-◌, ◌*◌, ◌≤◌, ◌<◌, max, length, replicate, get_or, set};
 ghost use Rattle.std.proofs.lemmas.List.Edits.{sets};
 ghost use Rattle.format12_collect.specs.Blocks.{Ones, Full, Part};

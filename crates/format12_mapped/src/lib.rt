@@ -1,4 +1,6 @@
 // Which code points a format 12 subtable maps, and those of one group.
+#![tactic(auto)]
+
 ghost use Rattle.std.specs.Prelude.{◌≡◌, ◌≤◌, ◌<◌, min};
 ghost use Rattle.number.specs.Limits.{unicode_max};
 ghost use Rattle.format12_mapped.specs.Mapped12.{clip12, cut12};
@@ -6,7 +8,7 @@ ghost use Rattle.format12_mapped.specs.Mapped12.{clip12, cut12};
 use number::limits::CodePoint;
 
 // Code points from start to end, both included; none where start exceeds end.
-#[derive(Drop)]
+#[derive(Clone, Copy)]
 pub struct Stretch {
     pub start: u32,
     pub end: u32,

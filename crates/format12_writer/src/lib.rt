@@ -1,4 +1,6 @@
 // Writes a format 12 subtable: its header, and behind it the groups, one run of the listed pairs each.
+#![tactic(auto)]
+
 ghost use Rattle.std.specs.Prelude.{◌≡◌, ◌+◌, ◌≤◌, ◌*◌, length, [], ◌∷◌};
 ghost use Rattle.std.proofs.lemmas.List.Edits.{sets};
 ghost use Rattle.format12.specs.Format12.{header12, groups, fields, format12, Columns, GroupsRoom};

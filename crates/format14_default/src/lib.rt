@@ -1,4 +1,6 @@
 // The new default table of a selector record: which kept points its ranges cover, how long it is, a checksum, and its bytes.
+#![tactic(auto)]
+
 ghost use Rattle.std.specs.Prelude.{◌≡◌, ◌+◌, ◌<◌, ◌≤◌, length};
 ghost use Rattle.std.proofs.lemmas.List.Edits.{sets};
 ghost use Rattle.lists_marks.specs.Marks.{between, marked, flagged, Flags};
@@ -97,7 +99,7 @@ fn mix_range(sum: u64, start: u32, additional: u32) -> u64
 }
 
 // How many records there are, and a checksum of them.
-#[derive(Drop)]
+#[derive(Clone, Copy)]
 struct RecordsMeasure {
     count: usize,
     sum: u64,
@@ -159,7 +161,7 @@ pub fn prepare(flags: &mut [u8], s: &[u8], p: usize, kept: &[u32]) -> u32
 }
 
 // How long a new table is, 0 where there is none, and a checksum of its bytes.
-#[derive(Drop)]
+#[derive(Clone, Copy)]
 pub struct DefaultMeasure {
     pub size: usize,
     pub sum: u64,

@@ -1,4 +1,6 @@
 // One mapping of a non-default table: its new glyph, and how it is mixed into a checksum and written.
+#![tactic(auto)]
+
 ghost use Rattle.std.specs.Prelude.{◌≡◌, ◌+◌, ◌≤◌, length};
 ghost use Rattle.std.proofs.lemmas.List.Edits.{sets};
 ghost use Rattle.laws.specs.Choice.{either};
@@ -17,7 +19,7 @@ pub fn new_glyph(map: &[u16], old: u32) -> u16
 }
 
 // A checksum of mappings, and whether one of them names a glyph that the map misses.
-#[derive(Drop)]
+#[derive(Clone, Copy)]
 pub struct Mixed {
     pub sum: u64,
     pub bad: bool,

@@ -1,4 +1,6 @@
 // The new non-default table of a selector record: how long it is, a checksum, whether it names a missing glyph, and its bytes.
+#![tactic(auto)]
+
 ghost use Rattle.std.specs.Prelude.{◌≡◌, ◌+◌, ◌≤◌, length};
 ghost use Rattle.std.proofs.lemmas.List.Edits.{sets};
 ghost use Rattle.laws.specs.Select.{flat};
@@ -22,7 +24,7 @@ fn count_for(kept: &[u32], c: u32, places: &[u32], near: usize) -> usize
 }
 
 // How long a new table is, 0 where there is none, a checksum of its bytes, and refusal 8: whether a mapping to be kept names a missing glyph.
-#[derive(Drop)]
+#[derive(Clone, Copy)]
 pub struct NonDefaultMeasure {
     pub size: usize,
     pub sum: u64,

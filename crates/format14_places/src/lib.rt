@@ -1,5 +1,7 @@
 // Where the new tables of a format 14 subtable stand: each is measured once, a table whose source stood before not again, and placed by its
 // distance from the subtable's end, equal ones at one place.
+#![tactic(auto)]
+
 ghost use Rattle.std.specs.Prelude.{◌≡◌, ◌+◌, ◌%◌, ◌≤◌, ◌*◌, ◌<◌, length, get_or};
 ghost use Rattle.format14_uvs.specs.Checksum.{checksum};
 ghost use Rattle.format14.specs.Selectors.{job14, selector_records, names_missing};
@@ -27,7 +29,7 @@ fn earlier(sources: &[usize], t: usize, off: usize) -> usize
 }
 
 // The length of a new table, a checksum of its bytes, where its source stands, and whether it or a table before it brings refusal 8.
-#[derive(Drop)]
+#[derive(Clone, Copy)]
 struct Measured {
     size: usize,
     sum: u64,

@@ -1,4 +1,6 @@
 // The records of a new default table, one after the other: where each begins, and how many points may follow its start.
+#![tactic(auto)]
+
 ghost use Rattle.std.specs.Prelude.{◌≡◌, ◌+◌, ◌<◌, ◌≤◌, length, eqb};
 ghost use Rattle.format14_uvs.specs.Default.{bit_length};
 ghost use Rattle.format14_ranges.specs.Stream.{NextFlagged, FlaggedPlace, NextRange, most_of};
@@ -50,7 +52,7 @@ pub fn most_additional(r: u32, kept: &[u32]) -> u32
 }
 
 // A record of the new table: the points after its start, and the place of the next record's start.
-#[derive(Drop)]
+#[derive(Clone, Copy)]
 pub struct UnicodeRange {
     pub additional: u32,
     pub next: usize,

@@ -1,4 +1,6 @@
 // Whether two new tables of the same sort are equal, found without writing them.
+#![tactic(auto)]
+
 ghost use Rattle.std.specs.Prelude.{◌≡◌, ◌+◌, ◌≤◌, length};
 ghost use Rattle.laws.specs.Select.{eq_list};
 ghost use Rattle.format14_uvs.specs.NonDefault.{mapping, mapping_bytes, new_non_default};
@@ -11,7 +13,7 @@ ghost use Rattle.format14.specs.Streams.{CodePoints, RangeFits, Flagging, same_r
 ghost use Rattle.format14_same.specs.Rows.{same_rows, MappingsLent, NextStaying};
 
 // The number of a mapping, and how many kept points are below the code point of the last one looked up.
-#[derive(Drop)]
+#[derive(Clone, Copy)]
 struct Stop {
     mapping: usize,
     near: usize,

@@ -1,4 +1,6 @@
 // The header of a format 14 subtable and its selector records, which know their tables by the distance from the subtable's end.
+#![tactic(auto)]
+
 ghost use Rattle.std.specs.Prelude.{◌≡◌, ◌+◌, ◌*◌, ◌<◌, ◌≤◌, length};
 ghost use Rattle.std.proofs.lemmas.List.Edits.{sets};
 ghost use Rattle.laws.specs.Select.{flat};

@@ -1,4 +1,6 @@
 // What is done for one table by numbers alone: whether two tables are alike by length and checksum, and where a table stands whose next equal is known.
+#![tactic(auto)]
+
 ghost use Rattle.std.specs.Prelude.{◌≡◌, ◌+◌, ◌^◌, ◌<◌, ◌≤◌, eqb, length, get_or, set};
 ghost use Rattle.laws.specs.Choice.{both, if_lt};
 

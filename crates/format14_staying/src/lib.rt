@@ -1,4 +1,6 @@
 // Whether a mapping of a non-default table stays: its code point is kept, or its old glyph requested.
+#![tactic(auto)]
+
 ghost use Rattle.std.specs.Prelude.{◌≡◌};
 ghost use Rattle.laws.specs.Lists.{Rising};
 ghost use Rattle.lists_marks.specs.Marks.{holds, Bound};
@@ -62,7 +64,7 @@ pub fn stays_at(s: &[u8], place: usize, kept: &[u32], requested: &[u16], c: u32,
 }
 
 // Whether a mapping stays, and how many kept points are below its code point, from where the next one is looked for.
-#[derive(Drop)]
+#[derive(Clone, Copy)]
 pub struct Staying {
     pub stays: bool,
     pub near: usize,

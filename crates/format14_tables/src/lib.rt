@@ -1,4 +1,6 @@
 // The new tables of the source's selector records, by number: how long each is, whether two are equal, and their bytes.
+#![tactic(auto)]
+
 ghost use Rattle.std.specs.Prelude.{◌≡◌, ◌+◌, ◌*◌, ◌%◌, ◌<◌, ◌≤◌, length};
 ghost use Rattle.std.proofs.lemmas.List.Edits.{sets};
 ghost use Rattle.laws.specs.Select.{eq_list};
@@ -52,7 +54,7 @@ pub fn source_table(
 }
 
 // How long a new table is, 0 where there is none, a checksum of its bytes, and refusal 8 for it.
-#[derive(Drop)]
+#[derive(Clone, Copy)]
 pub struct TableMeasure {
     pub size: usize,
     pub sum: u64,

@@ -1,4 +1,6 @@
 // When a default or non-default table of a format 14 subtable counts, and a checksum of a new table, record by record.
+#![tactic(auto)]
+
 ghost use Rattle.std.specs.Prelude.{◌≡◌, ◌+◌, ◌≤◌, length};
 ghost use Rattle.format14_uvs.specs.Checksum.{stirred};
 ghost use Rattle.format14_uvs.specs.Tables.{counts, counts_default, counts_non_default};

@@ -1,4 +1,6 @@
 // The new subtable of format 14: which selector records stay, where their tables stand, and its bytes.
+#![tactic(auto)]
+
 ghost use Rattle.std.specs.Prelude.{◌≡◌, ◌++◌, ◌+◌, ◌*◌, ◌<◌, ◌≤◌, length};
 ghost use Rattle.std.proofs.lemmas.List.Edits.{sets};
 ghost use Rattle.laws.specs.Pieces.{concat};
@@ -15,7 +17,7 @@ ghost use Rattle.number.specs.Limits.{tables_max};
 use format14::{Outcome14, Subtable};
 
 // The length of all tables that are written, and refusal 8.
-#[derive(Drop)]
+#[derive(Clone, Copy)]
 struct LaidOut {
     tail: usize,
     refused: bool,

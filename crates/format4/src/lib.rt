@@ -1,4 +1,6 @@
 // A format 4 subtable as it is defined, and a counter of its segments and glyphs.
+#![tactic(auto)]
+
 ghost use Rattle.std.specs.Prelude.{◌≡◌, ◌∷◌, [], ◌≤◌};
 ghost use Rattle.format4_cutting.specs.Steps.{to_list};
 ghost use Rattle.format4_cutting.specs.Cutting.{closing, entries_of, points};
@@ -7,14 +9,14 @@ ghost use Rattle.format4.specs.Walk.{Below, Adds};
 
 use format4_cutting::{Committed, Segment};
 
-#[derive(Drop)]
+#[derive(Clone, Copy)]
 pub struct RangeCounter {
     pub segments: usize,
     pub glyphs: usize,
 }
 
 // What becomes of a format 4 subtable; one that fits comes with the counts that its writer needs.
-#[derive(Drop)]
+#[derive(Clone, Copy)]
 pub enum Size4 {
     Empty,
     TooLong,

@@ -1,5 +1,7 @@
 // Which code points of a rising list a format 4 subtable maps, asked for all at once in one walk over the segments, in order or from the
 // last to the first. Walking down, blocks of points that are decided are passed over.
+#![tactic(auto)]
+
 ghost use Rattle.std.specs.Prelude.{◌≡◌, ◌+◌, ◌*◌, ◌/◌, ◌≤◌, ◌<◌, length};
 ghost use Rattle.lists_marks.specs.Marks.{Flags, flagged, flag_of, painted, Cleared};
 ghost use Rattle.source.specs.Room.{Room4};

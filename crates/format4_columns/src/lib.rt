@@ -1,4 +1,6 @@
 // Writes segments of a format 4 subtable into its columns and its glyph array, each at the writer's next places.
+#![tactic(auto)]
+
 ghost use Rattle.std.specs.Prelude.{◌≡◌, ◌+◌, ◌≤◌, ◌<◌, ◌-◌, ◌*◌, ◌∷◌, [], length, take, drop};
 ghost use Rattle.format4_columns.specs.Places.{offset_at, places_at, next_of, put_three, put_glyphs, put_one, put_all, moved_by, FarFromEnd, SegmentsRoom};
 ghost use Rattle.std.proofs.lemmas.List.Edits.{sets};
@@ -9,7 +11,7 @@ ghost use Rattle.format4_cutting.specs.Cutting.{closing};
 use format4_cutting::{Committed, Segment};
 
 // Where the next segment's numbers and glyphs go, and which pair is its first.
-#[derive(Drop)]
+#[derive(Clone, Copy)]
 pub struct RangeWriter {
     pub ends: usize,
     pub starts: usize,

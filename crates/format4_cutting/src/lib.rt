@@ -1,17 +1,19 @@
 // Cuts a rising list of (code point, glyph) pairs into the segments of a cmap format 4 table, one pair at a time.
+#![tactic(auto)]
+
 ghost use Rattle.std.specs.Prelude.{◌≡◌, ◌≤◌};
 ghost use Rattle.format4_cutting.specs.Steps.{idle, begun, grown, turned, cost_of, pays, commit, step, finish};
 ghost use Rattle.format4_cutting.specs.Cutting.{pair_delta};
 
 // Code points start to end. A delta of 0 says that the glyphs stand in the glyph array.
-#[derive(Drop)]
+#[derive(Clone, Copy)]
 pub struct Segment {
     pub start: u16,
     pub end: u16,
     pub delta: u16,
 }
 
-#[derive(Drop)]
+#[derive(Clone, Copy)]
 pub enum Committed {
     None,
     One(Segment),
@@ -19,7 +21,7 @@ pub enum Committed {
 }
 
 // The running range: what of it is not committed yet starts at start.
-#[derive(Drop)]
+#[derive(Clone, Copy)]
 pub struct RangeState {
     // A range is running.
     running: bool,
@@ -38,13 +40,13 @@ pub struct RangeState {
     glyph: u16,
 }
 
-#[derive(Drop)]
+#[derive(Clone, Copy)]
 pub struct Absorbed {
     pub state: RangeState,
     pub out: Committed,
 }
 
-#[derive(Drop)]
+#[derive(Clone, Copy)]
 pub struct Finished {
     pub out: Committed,
     pub close: bool,

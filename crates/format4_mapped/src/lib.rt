@@ -1,6 +1,7 @@
 // No functions: which code points a format 4 subtable maps.
+#![tactic(auto)]
 
-#[derive(Drop)]
+#[derive(Clone, Copy)]
 pub struct SourceSegment {
     pub start: u32,
     pub end: u32,

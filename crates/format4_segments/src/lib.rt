@@ -1,4 +1,6 @@
 // What each segment of a format 4 subtable says of a code point, and how many segments are walked.
+#![tactic(auto)]
+
 ghost use Rattle.std.specs.Prelude.{◌≡◌, ◌≤◌, ◌<◌};
 ghost use Rattle.laws.specs.Search.{first};
 ghost use Rattle.lists_marks.specs.Marks.{Inside};

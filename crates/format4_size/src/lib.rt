@@ -1,4 +1,6 @@
 // How many segments and glyphs a format 4 subtable has, and whether its length fits.
+#![tactic(auto)]
+
 ghost use Rattle.std.specs.Prelude.{◌≡◌};
 ghost use Rattle.laws.specs.Lists.{pairs};
 ghost use Rattle.format4.specs.Size.{Columns16, size_of4};

@@ -1,4 +1,6 @@
 // Writes a format 4 subtable: its header, its columns and its glyph array, in one walk over the pairs.
+#![tactic(auto)]
+
 ghost use Rattle.std.specs.Prelude.{◌≡◌, ◌∷◌, [], ◌+◌, ◌-◌, ◌*◌, ◌^◌, ◌≤◌, ◌<◌, length};
 ghost use Rattle.std.proofs.lemmas.List.Edits.{sets};
 ghost use Rattle.laws.specs.Lists.{pairs};
@@ -14,7 +16,7 @@ use format4::RangeCounter;
 use format4_columns::RangeWriter;
 use format4_cutting::RangeState;
 
-#[derive(Drop)]
+#[derive(Clone, Copy)]
 struct Log {
     e: u32,
     power: u32,

@@ -1,10 +1,12 @@
 // What a lookup answers, the glyph that a head prints, and what a group of a format 12 subtable gives for a code point, read from any bytes.
+#![tactic(auto)]
+
 ghost use Rattle.std.specs.Prelude.{◌≡◌, ◌<◌};
 ghost use Rattle.source.specs.Room.{Room12};
 ghost use Rattle.heads_lookup.specs.Lookup.{in_group, glyph_of};
 
 // A lookup's answer. A glyph 0 that the table gives is not the same as nothing there.
-#[derive(Drop)]
+#[derive(Clone, Copy)]
 pub enum Found {
     Nothing,
     Glyph(u32),

@@ -1,5 +1,7 @@
 // The glyph that the format 4 or format 12 subtable at an offset gives for a code point, read from any bytes: the first segment or group that
 // reaches it is asked.
+#![tactic(auto)]
+
 ghost use Rattle.std.specs.Prelude.{◌≡◌, ◌≤◌, ◌<◌};
 ghost use Rattle.source.specs.Room.{Room4, Room12};
 ghost use Rattle.heads_lookup.specs.Lookup.{in_array, in_segment, reaches, find4, find12, lookup4, lookup12};

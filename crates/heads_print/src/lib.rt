@@ -1,4 +1,6 @@
 // The two print heads: which glyph each prints for a code point, from a table of any length.
+#![tactic(auto)]
+
 ghost use Rattle.std.specs.Prelude.{◌≡◌, ◌+◌, ◌*◌, ◌≤◌, length};
 ghost use Rattle.laws.specs.Search.{first};
 ghost use Rattle.source_records.specs.Records.{leads_to_format};

@@ -1,1 +1,2 @@
 // No code: what the two calls over pair records promise, and that 1 is told exactly where a size is broken.
+#![tactic(auto)]

@@ -1,4 +1,6 @@
 // The pairs as a host lends them: one slice of records, whose sizes are settled before they are copied into two slices of numbers.
+#![tactic(auto)]
+
 ghost use Rattle.std.specs.Prelude.{◌≡◌, ◌≤◌, length};
 ghost use Rattle.laws.specs.Lists.{laid};
 ghost use Rattle.host_pairs.specs.Pairs.{codes_of, glyphs_of};
@@ -6,7 +8,7 @@ ghost use Rattle.host_pairs.specs.Sizes.{sizes_broken};
 
 // A listed code point and its new glyph.
 #[repr(C)]
-#[derive(Drop)]
+#[derive(Clone, Copy)]
 pub struct PairRecord {
     pub code: u32,
     pub glyph: u16,

@@ -1,4 +1,6 @@
 // Answers as a host gets them: a struct of numbers for each, and a function for each number that the rules give of an enum's cases.
+#![tactic(auto)]
+
 ghost use Rattle.std.specs.Prelude.{◌≡◌};
 ghost use Rattle.cmap_promise.specs.Cmap.{number_of, length_of, records_of};
 ghost use Rattle.cmap_promise.specs.Fates.{fate_number_of};
@@ -9,7 +11,7 @@ use cmap_promise::{Answer, Fate, FateKind};
 
 // Number 0 is an acceptance; length and records are those written. 10 comes with the length needed.
 #[repr(C)]
-#[derive(Drop)]
+#[derive(Clone, Copy)]
 pub struct SubsetAnswer {
     pub number: u8,
     pub length: usize,
@@ -18,7 +20,7 @@ pub struct SubsetAnswer {
 
 // What became of a record. Kinds: 0 not retained, 1 skipped, 2 empty, 3 too long, 4 covered, 5 written at the offset, 6 no such record, 7 refused with the number.
 #[repr(C)]
-#[derive(Drop)]
+#[derive(Clone, Copy)]
 pub struct FateAnswer {
     pub number: u8,
     pub platform: u32,
@@ -29,7 +31,7 @@ pub struct FateAnswer {
 
 // Number 0 comes with the glyph to print, 5 and 11 with glyph 0.
 #[repr(C)]
-#[derive(Drop)]
+#[derive(Clone, Copy)]
 pub struct HeadAnswer {
     pub number: u8,
     pub glyph: u32,

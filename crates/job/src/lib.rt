@@ -1,4 +1,6 @@
 // A job's bytes answered.
+#![tactic(auto)]
+
 ghost use Rattle.std.specs.Prelude.{◌≡◌, length};
 ghost use Rattle.job_input.specs.Job.{parse, job_at};
 ghost use Rattle.job_lists.specs.Lent.{ListsHeld};

@@ -1,4 +1,6 @@
 // A job's bytes taken apart: where its five records stand.
+#![tactic(auto)]
+
 ghost use Rattle.std.specs.Prelude.{◌≡◌, ◌≤◌};
 ghost use Rattle.job_input.specs.Job.{within, field_at, located_lists, located};
 
@@ -25,20 +27,20 @@ pub const JOB_MAP_MAX: usize = 8192;
 pub const JOB_REQUESTED_MAX: usize = 2048;
 
 // A record's payload: where it starts, how many entries it has, and where the next record starts.
-#[derive(Drop)]
+#[derive(Clone, Copy)]
 pub struct Field {
     pub at: usize,
     pub count: usize,
     pub end: usize,
 }
 
-#[derive(Drop)]
+#[derive(Clone, Copy)]
 pub enum FoundField {
     Whole(Field),
     Broken,
 }
 
-#[derive(Drop)]
+#[derive(Clone, Copy)]
 pub struct Places {
     pub source: Field,
     pub pairs: Field,
@@ -47,7 +49,7 @@ pub struct Places {
     pub requested: Field,
 }
 
-#[derive(Drop)]
+#[derive(Clone, Copy)]
 pub enum Located {
     At(Places),
     Damaged,

@@ -1,4 +1,6 @@
 // The numbers of a job, copied into lent arrays.
+#![tactic(auto)]
+
 ghost use Rattle.std.specs.Prelude.{◌≡◌, ◌+◌};
 ghost use Rattle.std.proofs.lemmas.List.Edits.{sets};
 ghost use Rattle.job_input.specs.Column.{column};

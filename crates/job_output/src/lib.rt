@@ -1,4 +1,6 @@
 // What the program writes: a few bytes of its own, then bytes of the work buffer; and which reply an answer or damaged bytes get.
+#![tactic(auto)]
+
 ghost use Rattle.std.specs.Prelude.{◌≡◌, [], ◌∷◌, ◌++◌};
 ghost use Rattle.number.specs.BigEndian.{enc};
 ghost use Rattle.job_output.specs.Output.{acceptance, refusal};
@@ -8,7 +10,7 @@ ghost use Rattle.job_output.specs.Answered.{reply_of, reply_to};
 use cmap_promise::Answer;
 
 // The first `headlength` bytes of head, then the first `length` bytes of the work buffer.
-#[derive(Drop)]
+#[derive(Clone, Copy)]
 pub struct Reply {
     pub head: [u8; 7],
     pub headlength: usize,

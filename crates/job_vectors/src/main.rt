@@ -1,4 +1,6 @@
 // Answers the jobs on standard input, each behind its length in four bytes, and writes the answers one after the other.
+#![tactic(auto)]
+
 ghost use Rattle.std.specs.Prelude.{◌≤◌, length};
 
 use job::INPUT_ROOM;

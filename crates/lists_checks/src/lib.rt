@@ -1,4 +1,6 @@
 // Refusals 1 to 4: sizes, order and limits of the lists that are lent.
+#![tactic(auto)]
+
 ghost use Rattle.std.specs.Prelude.{◌≡◌};
 ghost use Rattle.lists_checks.specs.Checks.{bad_sizes, bad_pairs, bad_kept, bad_requested};
 

@@ -1,4 +1,6 @@
 // Places in a rising list of points, found by halving: how many points are below one, and whether one is listed.
+#![tactic(auto)]
+
 ghost use Rattle.std.specs.Prelude.{◌≡◌, ◌+◌};
 ghost use Rattle.laws.specs.Lists.{Rising};
 ghost use Rattle.lists_marks.specs.Marks.{holds, Bound, Halving, AtLeast};

@@ -1,4 +1,6 @@
 // Order and limits of a list: whether a list of code points or of glyphs falls, exceeds a bound, reaches a count, or lacks a point of another.
+#![tactic(auto)]
+
 ghost use Rattle.std.specs.Prelude.{◌≡◌, leb, ltb, not};
 ghost use Rattle.laws.specs.Lists.{Rising};
 ghost use Rattle.lists_order.specs.Order.{falls, reaches_count, exceeds, lacks};

@@ -1,4 +1,6 @@
 // How many points of a rising list are below every 128th number, so that a search among many points, asked for in no order, has few steps to go.
+#![tactic(auto)]
+
 ghost use Rattle.std.specs.Prelude.{◌≡◌, ◌≤◌, leb, length};
 ghost use Rattle.laws.specs.Choice.{both};
 ghost use Rattle.laws.specs.Lists.{Rising};

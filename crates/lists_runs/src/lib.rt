@@ -1,4 +1,6 @@
 // Finds where a run of listed pairs ends: code points and glyphs that both rise by one.
+#![tactic(auto)]
+
 ghost use Rattle.std.specs.Prelude.{◌≡◌, ◌<◌, length};
 ghost use Rattle.lists_runs.specs.Runs.{breaks, RunEndsAt};
 

@@ -1,4 +1,6 @@
 // Which points of a rising list lie in a stretch: by two looks where a walk goes on from the last stretch, else by a search.
+#![tactic(auto)]
+
 ghost use Rattle.std.specs.Prelude.{◌≡◌, ◌+◌, ◌≤◌, leb, eqb, length};
 ghost use Rattle.laws.specs.Lists.{Rising};
 ghost use Rattle.lists_marks.specs.Marks.{below, passed, listed_whole, Bound};
@@ -86,7 +88,7 @@ pub fn is_passed(points: &[u32], start: u32, end: u32, near: usize) -> bool
 }
 
 // The places of the points of a stretch: from low on, up to high.
-#[derive(Drop)]
+#[derive(Clone, Copy)]
 pub struct Span {
     pub low: usize,
     pub high: usize,

@@ -1,4 +1,6 @@
 // Big-endian numbers of two, three and four bytes read from a slice, and a three-byte number from its bytes.
+#![tactic(auto)]
+
 pub mod limits;
 
 ghost use Rattle.std.specs.Prelude.{◌≡◌, ◌+◌, ◌≤◌, ◌<◌, length};

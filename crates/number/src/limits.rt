@@ -19,7 +19,7 @@ pub const TABLES_MAX: usize = 2 * SELECTORS_MAX;
 pub const FORMAT4_LENGTH_MAX: usize = 65535;
 
 // What a list of code points holds.
-#[derive(Drop)]
+#[derive(Clone, Copy)]
 pub struct CodePoint {
     pub value: u32,
 }
@@ -29,7 +29,7 @@ impl CodePoint {
 }
 
 // What a pair's glyph, and the map, hold.
-#[derive(Drop)]
+#[derive(Clone, Copy)]
 pub struct NewGlyph {
     pub value: u16,
 }

@@ -1,4 +1,6 @@
 // Big-endian numbers of two, three and four bytes written to a slice, and the bytes of a three-byte number.
+#![tactic(auto)]
+
 ghost use Rattle.std.specs.Prelude.{◌≡◌, ◌+◌, ◌≤◌, length};
 ghost use Rattle.number.specs.BigEndian.{enc, put};
 

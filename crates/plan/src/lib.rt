@@ -1,9 +1,11 @@
 // No functions: what becomes of each record of a source, the table that it makes, which earlier table serves it, what refusals 8 and 9 ask,
 // and where a plan is noted in lent numbers.
+#![tactic(auto)]
+
 use number::limits::{RECORDS_MAX, TABLES_MAX};
 
 // Why a record is in no result.
-#[derive(Drop)]
+#[derive(Clone, Copy)]
 pub enum Why {
     NotRetained,
     Skipped,
@@ -13,7 +15,7 @@ pub enum Why {
 }
 
 // A bad mapping is refusal 8. Served holds the record whose table serves, Made the length of the record's own table.
-#[derive(Drop)]
+#[derive(Clone, Copy)]
 pub enum Outcome {
     LeftOut(Why),
     BadMapping,

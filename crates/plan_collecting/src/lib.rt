@@ -1,4 +1,6 @@
 // Which of a rising list of points the subtable at an offset maps, and the listed pairs among them.
+#![tactic(auto)]
+
 ghost use Rattle.std.specs.Prelude.{◌≡◌, length};
 ghost use Rattle.std.proofs.lemmas.List.Edits.{sets};
 ghost use Rattle.source_records.specs.Records.{Placed};
@@ -72,7 +74,7 @@ pub fn list_record(
 }
 
 // How many pairs are listed. `front` of them, if it is not 0, are the first of the columns; else they are copied.
-#[derive(Drop)]
+#[derive(Clone, Copy)]
 pub struct Listed {
     pub count: usize,
     pub front: usize,

@@ -1,4 +1,6 @@
 // Whether a format 12 record is covered by its sibling, and so may be left out.
+#![tactic(auto)]
+
 ghost use Rattle.std.specs.Prelude.{◌≡◌, ◌≤◌, length, eqb, not};
 ghost use Rattle.laws.specs.Select.{any_of};
 ghost use Rattle.source_records.specs.Records.{Placed};

@@ -1,4 +1,6 @@
 // Format 12 subtables of the listed pairs that a record's subtable maps: how long they get, and their bytes.
+#![tactic(auto)]
+
 ghost use Rattle.std.specs.Prelude.{◌≡◌, ◌+◌, ◌≤◌, length, take};
 ghost use Rattle.std.proofs.lemmas.List.Edits.{sets};
 ghost use Rattle.laws.specs.Lists.{pairs};
@@ -16,7 +18,7 @@ fn size12_of(codes: &[u32], glyphs: &[u16], m: usize) -> format12::Size12
 }
 
 // The size of a format 12 subtable, and how many pairs at the front are all that it is made of; 0 where they are not the first ones.
-#[derive(Drop)]
+#[derive(Clone, Copy)]
 pub struct Sized12 {
     pub size: format12::Size12,
     pub front: usize,

@@ -1,4 +1,6 @@
 // Format 4 subtables of the listed pairs that a record's subtable maps: how long they get, and their bytes.
+#![tactic(auto)]
+
 ghost use Rattle.std.specs.Prelude.{◌≡◌, ◌+◌, ◌≤◌, length, take};
 ghost use Rattle.std.proofs.lemmas.List.Edits.{sets};
 ghost use Rattle.laws.specs.Lists.{pairs};
@@ -22,7 +24,7 @@ fn size4_of(codes: &[u32], glyphs: &[u16], m: usize) -> format4::Size4
 }
 
 // The size of a format 4 subtable, and how many pairs at the front are all that it is made of; 0 where they are not the first ones.
-#[derive(Drop)]
+#[derive(Clone, Copy)]
 pub struct Sized4 {
     pub size: format4::Size4,
     pub front: usize,

@@ -1,4 +1,6 @@
 // What became of records: an outcome is noted as a number and told again, tests of an outcome, and which earlier record serves or tells of one.
+#![tactic(auto)]
+
 ghost use Rattle.std.specs.Prelude.{◌≡◌, ◌<◌, ◌≤◌, length, get_or, set};
 ghost use Rattle.source_records.specs.Records.{Placed};
 ghost use Rattle.plan.specs.Outcomes.{is_made, is_bad, is_written, maker_of, serves, server};

@@ -1,4 +1,6 @@
 // The sibling of a format 12 record: the first record of the pair that may cover it and of its language.
+#![tactic(auto)]
+
 ghost use Rattle.std.specs.Prelude.{◌≡◌, ◌<◌};
 ghost use Rattle.laws.specs.Choice.{both};
 ghost use Rattle.source_records.specs.Records.{is_pair, Placed, Counted};

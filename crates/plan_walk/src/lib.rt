@@ -1,5 +1,7 @@
 // What becomes of each record of a source: a walk in source order, with what earlier records came to. A record that no earlier table serves
 // makes its own.
+#![tactic(auto)]
+
 ghost use Rattle.std.specs.Prelude.{◌≡◌, true, ◌+◌, ◌*◌, ◌<◌, ◌≤◌, length};
 ghost use Rattle.number.specs.BigEndian.{be};
 ghost use Rattle.source_header.specs.Header.{record_count};

@@ -1,4 +1,6 @@
 // Where the tables of a result stand: how many records are written, and how long their tables are.
+#![tactic(auto)]
+
 ghost use Rattle.std.specs.Prelude.{◌≡◌, ◌+◌, ◌-◌, ◌*◌, ◌≤◌, ◌<◌, length};
 ghost use Rattle.plan.specs.Notes.{outcomes_in};
 ghost use Rattle.result.specs.Result.{written_count};

@@ -1,4 +1,6 @@
 // Writing a result by a plan: header, records, and the tables that records make, each by the kind of its subtable.
+#![tactic(auto)]
+
 ghost use Rattle.std.specs.Prelude.{◌≡◌, ◌++◌, ◌+◌, ◌*◌, ◌<◌, ◌≤◌, length};
 ghost use Rattle.std.proofs.lemmas.List.Edits.{sets};
 ghost use Rattle.number.specs.BigEndian.{enc};
@@ -79,7 +81,7 @@ fn serialize_encoding_records(out: &mut [u8], s: &[u8], m: usize, notes: &[usize
 // ---- tables
 
 // A table to be written: the record that makes it, where it goes, and how many bytes it has.
-#[derive(Drop)]
+#[derive(Clone, Copy)]
 pub struct Table {
     pub record: usize,
     pub place: usize,

@@ -1,10 +1,12 @@
 // What can be read at an offset of a source: a subtable's format, with its language, count and length.
+#![tactic(auto)]
+
 ghost use Rattle.std.specs.Prelude.{◌≡◌, ◌-◌, length};
 ghost use Rattle.number.specs.BigEndian.{be};
 ghost use Rattle.source.specs.Kind.{kind_at, format_of};
 
 // A subtable that can be read, with its language, count and length, or none.
-#[derive(Drop)]
+#[derive(Clone, Copy)]
 pub enum Kind {
     Format4 {
         language: u32,
@@ -24,7 +26,7 @@ pub enum Kind {
 }
 
 // A readable format 4 subtable: where it stands in the source, how many segments it has, and how many bytes.
-#[derive(Drop)]
+#[derive(Clone, Copy)]
 pub struct Segments {
     pub at: usize,
     pub segs: usize,

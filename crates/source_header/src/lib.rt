@@ -1,22 +1,24 @@
 // A source's header, and its records.
+#![tactic(auto)]
+
 ghost use Rattle.std.specs.Prelude.{◌≡◌, ◌+◌, ◌*◌, ◌≤◌, length};
 ghost use Rattle.source_header.specs.Header.{record_count, header_of, entry_at, offset_of};
 
 // How many records the header announces, or refusal 5.
-#[derive(Drop)]
+#[derive(Clone, Copy)]
 pub enum Header {
     Records(usize),
     Refused,
 }
 
-#[derive(Drop)]
+#[derive(Clone, Copy)]
 pub struct EncodingRecord {
     pub platform: u32,
     pub encoding: u32,
     pub offset: usize,
 }
 
-#[derive(Drop)]
+#[derive(Clone, Copy)]
 pub enum Entry {
     Record(EncodingRecord),
     Missing,

@@ -1,4 +1,6 @@
 // The records of a source: the pair of each, and what it leads to. Which are retained, and refusals 6 and 7, are defined here.
+#![tactic(auto)]
+
 ghost use Rattle.std.specs.Prelude.{◌≡◌, eqb};
 ghost use Rattle.laws.specs.Choice.{both};
 ghost use Rattle.source_header.specs.Header.{record_of};
@@ -8,7 +10,7 @@ use source::Kind;
 use source_header::{EncodingRecord, Entry};
 
 // What refusals 6 and 7 ask of a record: a readable format 12, (0,3) or (3,1), (0,4) or (3,10).
-#[derive(Drop)]
+#[derive(Clone, Copy)]
 pub enum Wanted {
     Format12,
     Bmp,

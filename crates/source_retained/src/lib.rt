@@ -1,5 +1,7 @@
 // Which records of a source are retained: the pairs of the Basic Multilingual Plane, the pairs of all planes, and format 14;
 // and whether those that refusals 6 and 7 ask for are among them.
+#![tactic(auto)]
+
 ghost use Rattle.std.specs.Prelude.{◌≡◌};
 ghost use Rattle.source_records.specs.Records.{bmp_pair, full_pair, retained, Placed, is_wanted, some_retained, refused6, refused7, Counted};
 ghost use Rattle.laws.specs.Choice.{both};
