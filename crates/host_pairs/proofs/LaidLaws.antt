@@ -1,10 +1,14 @@
 -- A list laid over the first places of another: place by place, and what it leaves.
 use mathlib.Core.Path.{◌≡◌, refl, sym, ap, ◌∙◌}
-use Prim.Native.Nat.{ℕ, zero, suc, ◌≤◌, ◌<◌}
+use Prim.Native.Nat.{ℕ, zero, suc, ◌+◌, ◌≤◌, ◌<◌}
 use native.Mathlib.Nat.{not-suc-le-zero, le_of_suc-le-suc}
 use native.Mathlib.Omega.{arith}
 use mathlib.Core.List.{List, [], ◌∷◌, ◌++◌}
 use lib.ListN.{length, get_or, take, drop, set}
+use native.Mathlib.Numerals.{add-one}
+use Rattle.std.proofs.Common.{map}
+use Rattle.std.proofs.lemmas.List.{get_or-map}
+use Rattle.laws.proofs.LengthLaws.{length-map}
 use Rattle.laws.specs.Lists.{laid}
 
 -- ys with the first i of xs in its first places
@@ -24,6 +28,16 @@ upto_step i (x ∷ xs) [] h k = absurd (not-suc-le-zero k)
 upto_step zero (x ∷ xs) (y ∷ ys) h k = refl
 upto_step (suc i) (x ∷ xs) (y ∷ ys) h k = ap (λ (r : List ℕ). x ∷ r) (upto_step i xs ys (le_of_suc-le-suc h) (le_of_suc-le-suc k))
 
+-- the next record's number is put in its place
+pub column_step : {A : Type 0} (f : A → ℕ) (ps : List A) (i : ℕ) (d : A) (ys : List ℕ) {out : List ℕ} → out ≡ upto i (map f ps) ys → i < length ps → length ps ≤ length ys
+    → set out i (f (get_or ps i d)) ≡ upto (i + 1) (map f ps) ys
+column_step f ps i d ys {out} e h k =
+    let here : i < length (map f ps) = omega (arith, length-map f ps) in
+    ap (λ (l : List ℕ). set l i (f (get_or ps i d))) e
+    ∙ ap (λ (v : ℕ). set (upto i (map f ps) ys) i v) (sym (get_or-map f ps i d 0 h))
+    ∙ upto_step i (map f ps) ys here (omega arith)
+    ∙ ap (λ (n : ℕ). upto n (map f ps) ys) (sym (add-one i))
+
 take_all : (xs : List ℕ) → take (length xs) xs ≡ xs
 take_all [] = refl
 take_all (x ∷ xs) = ap (λ (r : List ℕ). x ∷ r) (take_all xs)
@@ -31,6 +45,10 @@ take_all (x ∷ xs) = ap (λ (r : List ℕ). x ∷ r) (take_all xs)
 -- all of them are there
 pub upto_all : (n : ℕ) (xs ys : List ℕ) → length xs ≡ n → upto n xs ys ≡ laid xs ys
 upto_all n xs ys e = ap (λ (m : ℕ). upto m xs ys) (sym e) ∙ ap (λ (r : List ℕ). r ++ drop (length xs) ys) (take_all xs)
+
+-- all records' numbers are there
+pub column_all : {A : Type 0} (f : A → ℕ) (ps : List A) (i : ℕ) (ys : List ℕ) {out : List ℕ} → out ≡ upto i (map f ps) ys → length ps ≤ i → i ≤ length ps → out ≡ laid (map f ps) ys
+column_all f ps i ys e g h = e ∙ upto_all i (map f ps) ys (length-map f ps ∙ omega arith)
 
 -- the first places hold xs, the others what they held, and there are as many
 pub laid_first : (n : ℕ) (xs ys : List ℕ) → length xs ≡ n → take n (laid xs ys) ≡ xs

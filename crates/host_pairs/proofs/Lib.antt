@@ -1,3 +1,2 @@
 pub mod LaidLaws
-pub mod Relend
 pub mod SizesLaws

@@ -14,7 +14,7 @@ pub struct PairRecord {
     pub glyph: u16,
 }
 
-// The proof is by hand: a function that holds a slice of structs is not covered.
+// Puts the code points and the glyphs of the records into the first places of two lists.
 pub fn copy_pairs(pairs: &[PairRecord], codes: &mut [u32], glyphs: &mut [u16])
     requires { (length pairs.now ≤ length codes.old) × (length pairs.now ≤ length glyphs.old) }
     ensures { (codes.new ≡ laid (codes_of pairs.now) codes.old)
