@@ -14,7 +14,6 @@ use Rattle.plan.specs.Outcomes.{is_made}
 use Rattle.plan.specs.Sizes.{made_size}
 use Rattle.plan.specs.Fresh.{table_of}
 use Rattle.plan.specs.Making.{Ready}
-use Rattle.plan.specs.Plan.{plan}
 use Rattle.plan.proofs.PlanLaws.{ready, prepared_again}
 use Rattle.result.proofs.MadeLaws.{made_length}
 use Rattle.result.proofs.PlanLaws.{Making, plan_past, plan_made, plan_served}

@@ -1,0 +1,13 @@
+use Rattle.laws.proofs.TakeLaws.{take_counts}
+use Rattle.host_told.proofs.TellLaws.{telling}
+use borrow.Author.Rules.{rules}
+use Rattle.crustedlane.proofs.fate_on_room.Goals as goal
+
+pub slice_bounds-fate_of-end-2 : goal.slice_bounds-fate_of-end-2
+slice_bounds-fate_of-end-2 c = search (rules, take_counts)
+
+pub slice_bounds-fate_of-end-4 : goal.slice_bounds-fate_of-end-4
+slice_bounds-fate_of-end-4 c = search (rules, take_counts)
+
+pub returns : goal.returns
+returns c = search (rules, telling)

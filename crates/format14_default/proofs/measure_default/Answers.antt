@@ -1,0 +1,15 @@
+-- The records taken from the flags are the new table's.
+use Rattle.format14.proofs.NewLaws.{new_rules, sum_new}
+use Rattle.format14_default.proofs.measure_default.Goals as goal
+
+pub returns-then-ranges-eq0-clause-size_value : goal.returns-then-ranges-eq0-clause-size_value
+returns-then-ranges-eq0-clause-size_value c = search new_rules
+
+pub returns-then-ranges-eq0-clause-sum_value : goal.returns-then-ranges-eq0-clause-sum_value
+returns-then-ranges-eq0-clause-sum_value c = search sum_new
+
+pub returns-clause-size_value : goal.returns-clause-size_value
+returns-clause-size_value c = search new_rules
+
+pub returns-clause-sum_value : goal.returns-clause-sum_value
+returns-clause-sum_value c = search sum_new

@@ -1,0 +1,13 @@
+-- The tables stand behind header and records.
+use borrow.Author.Rules.{rules}
+use Rattle.format14.proofs.WholeLaws.{distances, records_room, tables_stop, whole}
+use Rattle.format14_writer.proofs.serialize.Goals as goal
+
+pub copy_var_selector_record_uvs_tables-requires-clause-fact : goal.copy_var_selector_record_uvs_tables-requires-clause-fact
+copy_var_selector_record_uvs_tables-requires-clause-fact c = (search rules, search tables_stop)
+
+pub put_front-requires-clause-fact : goal.put_front-requires-clause-fact
+put_front-requires-clause-fact c = (search distances, search records_room)
+
+pub returns : goal.returns
+returns c = search whole

@@ -1,0 +1,4 @@
+use Rattle.format4_cutting.proofs.RangeState.begin.Goals as goal
+
+pub returns : goal.returns
+returns c = simp c.delta_of.ensures

@@ -1,0 +1,12 @@
+-- An accepted header has room for its records; a refused one is 5.
+use Rattle.heads.proofs.HeadsLaws.{records_fit, by_header}
+use Rattle.heads_print.proofs.old_head.Goals as goal
+
+pub old_of-requires : goal.old_of-requires
+old_of-requires c = search records_fit
+
+pub returns-in-Records : goal.returns-in-Records
+returns-in-Records c = search by_header
+
+pub returns-in-Refused : goal.returns-in-Refused
+returns-in-Refused c = search by_header

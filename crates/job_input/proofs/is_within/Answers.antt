@@ -1,0 +1,12 @@
+-- The two tests are the definition's.
+use Rattle.laws.proofs.ChoiceLaws.{tests}
+use Rattle.job_input.specs.Job.{within}
+use Rattle.job_input.proofs.is_within.Goals as goal
+
+pub returns-then-n-width-ne0 : goal.returns-then-n-width-ne0
+unfolding within
+returns-then-n-width-ne0 c = search tests
+
+pub returns : goal.returns
+unfolding within
+returns c = search tests

@@ -1,0 +1,6 @@
+use Rattle.job_output.specs.Answered.{reply_to}
+use Rattle.job_output.proofs.damaged_reply.Goals as goal
+
+pub returns : goal.returns
+unfolding reply_to
+returns c = c.refuse.ensures

@@ -1,0 +1,22 @@
+-- What is left of the pairs, copied from k, gives the whole.
+use Prim.Native.Nat.{◌-◌}
+use Rattle.lists_marks.proofs.MarksLaws.{pairing}
+use Rattle.lists_flags.proofs.copy_marked.Goals as goal
+
+pub loop-i-init : goal.loop-i-init
+loop-i-init c = search pairing
+
+pub loop-i-preserved-then-flag-ne0 : goal.loop-i-preserved-then-flag-ne0
+loop-i-preserved-then-flag-ne0 c = search pairing
+
+pub loop-i-preserved : goal.loop-i-preserved
+loop-i-preserved c = search pairing
+
+pub returns-clause-value : goal.returns-clause-value
+returns-clause-value c = search pairing
+
+pub returns-clause-tocodes_after : goal.returns-clause-tocodes_after
+returns-clause-tocodes_after c = search pairing
+
+pub returns-clause-toglyphs_after : goal.returns-clause-toglyphs_after
+returns-clause-toglyphs_after c = search pairing

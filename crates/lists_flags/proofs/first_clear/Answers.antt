@@ -1,0 +1,16 @@
+-- What is left of the walk, from here, finds what the whole finds.
+use Prim.Native.Nat.{◌-◌}
+use Rattle.lists_marks.proofs.LeadingLaws.{finding}
+use Rattle.lists_flags.proofs.first_clear.Goals as goal
+
+pub loop-i-init : goal.loop-i-init
+loop-i-init c = search finding
+
+pub returns-then-flags-i-eq0-clause-value : goal.returns-then-flags-i-eq0-clause-value
+returns-then-flags-i-eq0-clause-value c = search finding
+
+pub loop-i-preserved : goal.loop-i-preserved
+loop-i-preserved c = search finding
+
+pub returns-clause-value : goal.returns-clause-value
+returns-clause-value c = search finding

@@ -1,0 +1,12 @@
+-- Two looks tell it.
+use Rattle.lists_marks.proofs.BelowLaws.{passing}
+use Rattle.lists_spans.proofs.is_passed.Goals as goal
+
+pub returns-then-points-near : goal.returns-then-points-near
+returns-then-points-near c = search passing
+
+pub returns-then-reaches : goal.returns-then-reaches
+returns-then-reaches c = search passing
+
+pub returns : goal.returns
+returns c = search passing

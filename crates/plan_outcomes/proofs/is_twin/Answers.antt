@@ -1,0 +1,8 @@
+use Rattle.plan.proofs.TwinsLaws.{twin_tests}
+use Rattle.plan_outcomes.proofs.is_twin.Goals as goal
+
+pub returns-then-is_pair : goal.returns-then-is_pair
+returns-then-is_pair c = search twin_tests
+
+pub returns : goal.returns
+returns c = search twin_tests

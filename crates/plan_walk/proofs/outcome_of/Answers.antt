@@ -1,0 +1,14 @@
+use native.Mathlib.Omega.{arith}
+use Rattle.plan.proofs.OutcomeLaws.{outcome_rules}
+use Rattle.plan.proofs.NotesLaws.{staying}
+use borrow.Author.Rules.{rules}
+use Rattle.plan_walk.proofs.outcome_of.Goals as goal
+
+pub retained_outcome-requires-clause-k_value : goal.retained_outcome-requires-clause-k_value
+retained_outcome-requires-clause-k_value c = search outcome_rules
+
+pub returns-then-retain_encoding_record_for_subset : goal.returns-then-retain_encoding_record_for_subset
+returns-then-retain_encoding_record_for_subset c = ((search outcome_rules, search rules), search rules, search rules)
+
+pub returns : goal.returns
+returns c = ((search outcome_rules, record { below = omega arith }), search staying, search staying)

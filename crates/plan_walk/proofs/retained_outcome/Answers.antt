@@ -1,0 +1,22 @@
+use native.Mathlib.Omega.{arith}
+use Rattle.plan.proofs.OutcomeLaws.{outcome_rules}
+use Rattle.plan.proofs.TwinLaws.{twins}
+use Rattle.plan.proofs.FreshLaws.{ready_again}
+use Rattle.plan.proofs.NotesLaws.{staying, notebook_again}
+use borrow.Author.Rules.{rules}
+use Rattle.plan_walk.proofs.retained_outcome.Goals as goal
+
+pub is_dropped-requires-clause-tells : goal.is_dropped-requires-clause-tells
+is_dropped-requires-clause-tells c = search twins
+
+pub returns-then-is_dropped : goal.returns-then-is_dropped
+returns-then-is_dropped c = ((search outcome_rules, record { below = omega arith }), search staying, search staying)
+
+pub returns-then-r-k : goal.returns-then-r-k
+returns-then-r-k c = ((search outcome_rules, record { below = omega arith }), search staying, search staying)
+
+pub unserved_outcome-requires : goal.unserved_outcome-requires
+unserved_outcome-requires c = (search rules, search ready_again, search notebook_again)
+
+pub returns : goal.returns
+returns c = ((search outcome_rules, search rules), search rules, search staying)
