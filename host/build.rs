@@ -1,6 +1,6 @@
 //! Finds the proved library, or has it made, and links it.
 use std::env;
-use std::io::{stderr, ErrorKind};
+use std::io::stderr;
 use std::path::{Path, PathBuf};
 use std::process::{exit, Command};
 
@@ -45,15 +45,10 @@ fn of_the_repository() -> PathBuf {
 
 /// Proves and makes the library. What `rt` prints is not for Cargo to read, so it goes to standard error.
 fn make(root: &Path) {
-    let rt =
-        Command::new("rt").args(["staticlib", "crustedlane"]).current_dir(root).stdout(stderr()).status();
-    match rt {
+    match Command::new(root.join("tools/staticlib")).stdout(stderr()).status() {
         Ok(status) if status.success() => {}
-        Ok(status) => stop(&format!("rt staticlib crustedlane failed: {status}.")),
-        Err(error) if error.kind() == ErrorKind::NotFound => {
-            stop("The Rattle kit is needed to make the library: its command rt is not on the PATH.")
-        }
-        Err(error) => stop(&format!("rt can't be run: {error}.")),
+        Ok(status) => stop(&format!("tools/staticlib failed: {status}.")),
+        Err(error) => stop(&format!("tools/staticlib can't be run: {error}.")),
     }
 }
 

@@ -17,15 +17,15 @@ import sys
 
 # What the promises name: crate, file, definition.
 ROOTS = [
-    ("cmap_promise", "Cmap", "answerOf"), ("cmap_promise", "Cmap", "outputOf"), ("cmap_promise", "Cmap", "numberOf"),
-    ("cmap_promise", "Cmap", "lengthOf"), ("cmap_promise", "Cmap", "recordsOf"),
-    ("cmap_promise", "Fates", "fateOf"), ("cmap_promise", "Fates", "fateNumberOf"),
-    ("heads", "Heads", "oldHead"), ("heads", "Heads", "newHead"), ("heads", "Heads", "headNumberOf"), ("heads", "Heads", "printedOf"),
-    ("cmap_answers", "Answers", "oldAnswer"), ("cmap_answers", "Answers", "newAnswer"),
+    ("cmap_promise", "Cmap", "answer_of"), ("cmap_promise", "Cmap", "output_of"), ("cmap_promise", "Cmap", "number_of"),
+    ("cmap_promise", "Cmap", "length_of"), ("cmap_promise", "Cmap", "records_of"),
+    ("cmap_promise", "Fates", "fate_of"), ("cmap_promise", "Fates", "fate_number_of"),
+    ("heads", "Heads", "old_head"), ("heads", "Heads", "new_head"), ("heads", "Heads", "head_number_of"), ("heads", "Heads", "printed_of"),
+    ("cmap_answers", "Answers", "old_answer"), ("cmap_answers", "Answers", "new_answer"),
     ("job_output", "Answered", "answered"), ("job_input", "Job", "parse"),
-    ("host_calls", "Calls", "subsetOf"), ("host_calls", "Calls", "recordFateOf"), ("host_calls", "Calls", "codesAfter"),
-    ("host_calls", "Calls", "glyphsAfter"), ("host_calls", "Calls", "outAfter"),
-    ("host_told", "Told", "told"), ("host_told", "Told", "toldFate"), ("host_told", "Told", "toldHead"),
+    ("host_calls", "Calls", "subset_of"), ("host_calls", "Calls", "record_fate_of"), ("host_calls", "Calls", "codes_after"),
+    ("host_calls", "Calls", "glyphs_after"), ("host_calls", "Calls", "out_after"),
+    ("host_told", "Told", "told"), ("host_told", "Told", "told_fate"), ("host_told", "Told", "told_head"),
 ]
 
 # The crate of the calls for hosts: what its contracts name is to be believed.
@@ -36,8 +36,8 @@ DECLARED = "declared"
 INNER = "-- Inner:"
 # A ruled line below which a file has what no promise names, though promises name what stands above it.
 ASKED = re.compile(r"^\s*-- ---- .*\b(?:asks?|asked|inner)\b", re.I)
-MODULE = r"^\s*(?:ghost )?use\s+Rattle·(\w+)(?:·\w+)?\.specs\.((?:declared\.)?[A-Z]\w*)"
-IMPORT = re.compile(MODULE + r"(?:\.the-variants)?\.\{([^}]*)\}", re.M)
+MODULE = r"^\s*(?:ghost )?use\s+Rattle\.(\w+)\.specs\.((?:declared\.)?[A-Z]\w*)"
+IMPORT = re.compile(MODULE + r"(?:\.TheVariants)?\.\{([^}]*)\}", re.M)
 ALIAS = re.compile(MODULE + r"\s+as\s+(\S+?);?$", re.M)
 DEFINED = re.compile(r"^(\s*)(?:(?:abbrev|unfoldable) )?(?:pub )?(?:(record|data) (\S+)(?=[ :])|(\S+) :(?= |$))")
 MEMBER = re.compile(r"^\s*(?:pub )?(\S+) : ")

@@ -19,7 +19,7 @@ What it says is its own first comment.
 | file | what it says | laws | cited by |
 |---|---|---:|---|
 """
-IMPORT = re.compile(r"^use\s+Rattle·(\w+)\.proofs\.(\w+)\b", re.M)
+IMPORT = re.compile(r"^use\s+Rattle\.(\w+)\.proofs\.(\w+)\b", re.M)
 LAW = re.compile(r"^ *pub (?!mod|ruleset|record|data|use|abbrev|unfoldable)\S+ :", re.M)
 
 

@@ -19,4 +19,4 @@ def write(name, text):
 def crates():
     """The crates in the order of crates.txt, leaves first."""
     with open("crates.txt", encoding="utf-8") as f:
-        return [line.split(":")[0] for line in f if ":" in line and not line.startswith("#")]
+        return [line.split(":")[0].split()[0] for line in f if ":" in line and not line.startswith("#")]
