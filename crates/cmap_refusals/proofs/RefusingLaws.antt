@@ -63,7 +63,7 @@ early_prepared j flags others tocodes toglyphs e cf kf ko ct gt =
     record {
       counted = record { is = refl; inside = a.fits };
       few_records = a.few;
-      glyph_count_lem = omega (arith, s.few_glyphs);
+      few_glyphs = omega (arith, s.few_glyphs);
       codes_rise = codes_rise j.codes j.glyphs p.pairs;
       few_pairs = s.few_pairs;
       columns = record { even = s.even; codes = ct; glyphs = omega (arith, s.even, gt) };

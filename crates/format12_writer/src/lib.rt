@@ -32,7 +32,7 @@ fn put_group(out: &mut [u8], at: usize, group: Group)
 // Writes the groups that the pairs make.
 fn write_groups(out: &mut [u8], at: usize, codes: &[u32], glyphs: &[u16])
     requires columns { Columns codes.now glyphs.now }
-    requires glyphs_in_bounds { at + 12 * length (groups (pairs codes.now glyphs.now)) ≤ length out.old }
+    requires room { at + 12 * length (groups (pairs codes.now glyphs.now)) ≤ length out.old }
     ensures { out.new ≡ sets out.old at (encs 4 (fields (groups (pairs codes.now glyphs.now)))) }
 {
     let mut to = at;

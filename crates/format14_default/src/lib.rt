@@ -135,7 +135,7 @@ fn copy_range(out: &mut [u8], to: usize, start: u32, additional: u32)
 // Writes every record; how many.
 fn copy_ranges(out: &mut [u8], to: usize, kept: &[u32], flags: &[u8], most: u32) -> usize
     requires kept_flagged { KeptFlagged kept.now flags.now }
-    requires flags_in_bounds { to + length (flat range_bytes (records most kept.now flags.now 0)) ≤ length out.old }
+    requires room { to + length (flat range_bytes (records most kept.now flags.now 0)) ≤ length out.old }
     ensures range_count { RangeCount most kept.now flags.now result }
     ensures out_after { out.new ≡ sets out.old to (flat range_bytes (records most kept.now flags.now 0)) }
 {
@@ -197,7 +197,7 @@ pub fn copy_default_uvs(
     flags: &mut [u8],
 )
     requires default_lent { DefaultLent s.now p kept.now flags.old }
-    requires kept_in_bounds { to + length (new_default s.now p kept.now) ≤ length out.old }
+    requires room { to + length (new_default s.now p kept.now) ≤ length out.old }
     ensures out_after { out.new ≡ sets out.old to (new_default s.now p kept.now) }
     ensures flags_after { flags.new ≡ sets flags.old 0 (flagged (covered_by s.now p) kept.now) }
 {

@@ -128,7 +128,7 @@ fn copy_by(
     places: &[u32],
 ) -> usize
     requires non_default_lent { NonDefaultLent s.now p kept.now requested.now }
-    requires requested_in_bounds { to + length (flat (mapping_bytes map.now) (kept_mappings s.now p kept.now requested.now)) ≤ length out.old }
+    requires room { to + length (flat (mapping_bytes map.now) (kept_mappings s.now p kept.now requested.now)) ≤ length out.old }
     ensures mapping_count { MappingCount s.now p kept.now requested.now result }
     ensures out_after { out.new ≡ sets out.old to (flat (mapping_bytes map.now) (kept_mappings s.now p kept.now requested.now)) }
 {
@@ -160,7 +160,7 @@ fn copy_many(
     requested: &[u16],
 ) -> usize
     requires non_default_lent { NonDefaultLent s.now p kept.now requested.now }
-    requires requested_in_bounds { to + length (flat (mapping_bytes map.now) (kept_mappings s.now p kept.now requested.now)) ≤ length out.old }
+    requires room { to + length (flat (mapping_bytes map.now) (kept_mappings s.now p kept.now requested.now)) ≤ length out.old }
     ensures mapping_count { MappingCount s.now p kept.now requested.now result }
     ensures out_after { out.new ≡ sets out.old to (flat (mapping_bytes map.now) (kept_mappings s.now p kept.now requested.now)) }
 {
@@ -180,7 +180,7 @@ fn copy_mappings(
     requested: &[u16],
 ) -> usize
     requires non_default_lent { NonDefaultLent s.now p kept.now requested.now }
-    requires requested_in_bounds { to + length (flat (mapping_bytes map.now) (kept_mappings s.now p kept.now requested.now)) ≤ length out.old }
+    requires room { to + length (flat (mapping_bytes map.now) (kept_mappings s.now p kept.now requested.now)) ≤ length out.old }
     ensures mapping_count { MappingCount s.now p kept.now requested.now result }
     ensures out_after { out.new ≡ sets out.old to (flat (mapping_bytes map.now) (kept_mappings s.now p kept.now requested.now)) }
 {
@@ -202,7 +202,7 @@ pub fn copy_non_default_uvs(
     requested: &[u16],
 )
     requires non_default_lent { NonDefaultLent s.now p kept.now requested.now }
-    requires requested_in_bounds { to + length (new_non_default s.now p kept.now map.now requested.now) ≤ length out.old }
+    requires room { to + length (new_non_default s.now p kept.now map.now requested.now) ≤ length out.old }
     ensures { out.new ≡ sets out.old to (new_non_default s.now p kept.now map.now requested.now) }
 {
     if out.len() - to < 4 {

@@ -53,9 +53,9 @@ fn measure_one(
 ) -> Measured
     requires readable { Readable s.now subtable.at subtable.len kept.now requested.now }
     requires numbered { Numbered s.now subtable.at kept.now flags.old t }
-    requires fact { let g = job14 s.now subtable.at subtable.len kept.now map.now requested.now in Lengths (slot g) t lengths.now × (Sums (slot g) t sums.now × SomeSlotBad g t refused) }
+    requires stored { let g = job14 s.now subtable.at subtable.len kept.now map.now requested.now in Lengths (slot g) t lengths.now × (Sums (slot g) t sums.now × SomeSlotBad g t refused) }
     requires sources { Sources s.now subtable.at subtable.len kept.now t sources.now }
-    ensures fact_2 { let g = job14 s.now subtable.at subtable.len kept.now map.now requested.now in SlotLength g t result.size × ((result.sum ≡ checksum (4 + t % 2) (slot g t)) × SomeSlotBad g (t + 1) result.refused) }
+    ensures measured { let g = job14 s.now subtable.at subtable.len kept.now map.now requested.now in SlotLength g t result.size × ((result.sum ≡ checksum (4 + t % 2) (slot g t)) × SomeSlotBad g (t + 1) result.refused) }
     ensures source_offset { SourceOffset s.now subtable.at subtable.len kept.now t result.source }
 {
     let off = format14_tables::source_table(s, subtable, kept, requested, t);
@@ -138,7 +138,7 @@ fn equal_tables(
     requires readable { Readable s.now subtable.at subtable.len kept.now requested.now }
     requires numbered { Numbered s.now subtable.at kept.now flags.old t }
     requires numbered_2 { Numbered s.now subtable.at kept.now others.old j }
-    requires fact { let g = job14 s.now subtable.at subtable.len kept.now map.now requested.now in Lengths (slot g) (2 * selector_records g) lengths.now × Sums (slot g) (2 * selector_records g) sums.now }
+    requires measured { let g = job14 s.now subtable.at subtable.len kept.now map.now requested.now in Lengths (slot g) (2 * selector_records g) lengths.now × Sums (slot g) (2 * selector_records g) sums.now }
     requires nonzero { 0 < get_or lengths.now t 0 }
     ensures { let g = job14 s.now subtable.at subtable.len kept.now map.now requested.now in result ≡ eq_list (slot g t) (slot g j) }
 {
@@ -164,7 +164,7 @@ fn later_equal(
     requires readable { Readable s.now subtable.at subtable.len kept.now requested.now }
     requires numbered { Numbered s.now subtable.at kept.now flags.old t }
     requires kept_in_bounds { length kept.now ≤ length others.old }
-    requires fact { let g = job14 s.now subtable.at subtable.len kept.now map.now requested.now in Lengths (slot g) (2 * selector_records g) lengths.now × Sums (slot g) (2 * selector_records g) sums.now }
+    requires measured { let g = job14 s.now subtable.at subtable.len kept.now map.now requested.now in Lengths (slot g) (2 * selector_records g) lengths.now × Sums (slot g) (2 * selector_records g) sums.now }
     requires nonzero { 0 < get_or lengths.now t 0 }
     ensures { let g = job14 s.now subtable.at subtable.len kept.now map.now requested.now in result ≡ later_equal (slot g) (2 * selector_records g) t }
 {
@@ -198,7 +198,7 @@ pub fn place_tables(
 ) -> usize
     requires readable { Readable s.now subtable.at subtable.len kept.now requested.now }
     requires kept_in_bounds { (length kept.now ≤ length flags.old) × (length kept.now ≤ length others.old) }
-    requires fact { let g = job14 s.now subtable.at subtable.len kept.now map.now requested.now in Lengths (slot g) (2 * selector_records g) lengths.now × Sums (slot g) (2 * selector_records g) sums.now }
+    requires measured { let g = job14 s.now subtable.at subtable.len kept.now map.now requested.now in Lengths (slot g) (2 * selector_records g) lengths.now × Sums (slot g) (2 * selector_records g) sums.now }
     requires tables_max_in_bounds { tables_max ≤ length ends.old }
     ensures { let g = job14 s.now subtable.at subtable.len kept.now map.now requested.now in Ends (slot g) (2 * selector_records g) ends.new × Total (slot g) (2 * selector_records g) result }
 {

@@ -72,7 +72,7 @@ fn copy_record(
     k: usize,
 )
     requires distances { Distances (k + 1) total ends.now }
-    requires place_in_bounds { (place + 11 ≤ length out.old) × (at + 10 + 11 * (k + 1) ≤ length s.now) }
+    requires room { (place + 11 ≤ length out.old) × (at + 10 + 11 * (k + 1) ≤ length s.now) }
     ensures { out.new ≡ sets out.old place (record_at s.now at total ends.now k) }
 {
     let selector = number::u24_at(s, at + 10 + 11 * k);
@@ -92,7 +92,7 @@ pub fn copy_records(
     n: usize,
 )
     requires distances { Distances n total ends.now }
-    requires n_in_bounds { (to + 11 * length (used_records ends.now n) ≤ length out.old) × (at + 10 + 11 * n ≤ length s.now) }
+    requires room { (to + 11 * length (used_records ends.now n) ≤ length out.old) × (at + 10 + 11 * n ≤ length s.now) }
     ensures { out.new ≡ sets out.old to (flat (record_at s.now at total ends.now) (used_records ends.now n)) }
 {
     let mut place = to;

@@ -149,7 +149,7 @@ pub fn copy_table(
 )
     requires readable { Readable s.now subtable.at subtable.len kept.now requested.now }
     requires numbered { Numbered s.now subtable.at kept.now flags.old t }
-    requires t_in_bounds { to + length (slot (job14 s.now subtable.at subtable.len kept.now map.now requested.now) t) ≤ length out.old }
+    requires room { to + length (slot (job14 s.now subtable.at subtable.len kept.now map.now requested.now) t) ≤ length out.old }
     ensures { out.new ≡ sets out.old to (slot (job14 s.now subtable.at subtable.len kept.now map.now requested.now) t) }
 {
     let off = source_table(s, subtable, kept, requested, t);

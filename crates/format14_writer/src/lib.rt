@@ -87,7 +87,7 @@ pub fn size(
     requires readable { Readable s.now subtable.at subtable.len kept.now requested.now }
     requires kept_in_bounds { (length kept.now ≤ length flags.old) × (length kept.now ≤ length others.old) }
     requires tables_max_in_bounds { tables_max ≤ length ends.old }
-    ensures fact { let g = job14 s.now subtable.at subtable.len kept.now map.now requested.now in (result ≡ outcome14 g) × Ends (slot g) (2 * selector_records g) ends.new }
+    ensures laid_out { let g = job14 s.now subtable.at subtable.len kept.now map.now requested.now in (result ≡ outcome14 g) × Ends (slot g) (2 * selector_records g) ends.new }
     ensures result_bound { length_in result < 4294967296 }
 {
     let n = number::u32_at(s, subtable.at + 6) as usize;
@@ -107,7 +107,7 @@ fn put_front(
     total: usize,
 )
     requires at_in_bounds { subtable.at + 10 + 11 * be 4 s.now (subtable.at + 6) ≤ length s.now }
-    requires fact { let n = be 4 s.now (subtable.at + 6) in Distances n total ends.now × (place + 10 + 11 * length (used_records ends.now n) ≤ length out.old) }
+    requires distances { let n = be 4 s.now (subtable.at + 6) in Distances n total ends.now × (place + 10 + 11 * length (used_records ends.now n) ≤ length out.old) }
     ensures { let ks = used_records ends.now (be 4 s.now (subtable.at + 6)) in out.new ≡ sets out.old place (header14_with total (length ks) ++ flat (record_at s.now subtable.at total ends.now) ks) }
 {
     let n = number::u32_at(s, subtable.at + 6) as usize;
@@ -130,7 +130,7 @@ fn copy_var_selector_record_uvs_tables(
 )
     requires readable { Readable s.now subtable.at subtable.len kept.now requested.now }
     requires kept_in_bounds { length kept.now ≤ length flags.old }
-    requires fact { let g = job14 s.now subtable.at subtable.len kept.now map.now requested.now in Ends (slot g) (2 * selector_records g) ends.now × Stops (slot g) (2 * selector_records g) stop out.old }
+    requires ends { let g = job14 s.now subtable.at subtable.len kept.now map.now requested.now in Ends (slot g) (2 * selector_records g) ends.now × Stops (slot g) (2 * selector_records g) stop out.old }
     ensures { let g = job14 s.now subtable.at subtable.len kept.now map.now requested.now in out.new ≡ ends_at stop out.old (concat (written_from (slot g) (2 * selector_records g) 0)) }
 {
     let mut tail = 0;
@@ -170,8 +170,8 @@ pub fn serialize(
 )
     requires readable { Readable s.now subtable.at subtable.len kept.now requested.now }
     requires kept_in_bounds { length kept.now ≤ length flags.old }
-    requires fact { let g = job14 s.now subtable.at subtable.len kept.now map.now requested.now in Ends (slot g) (2 * selector_records g) ends.now × (total ≡ length_of14 (rows g)) }
-    requires total_in_bounds { place + total ≤ length out.old }
+    requires ends { let g = job14 s.now subtable.at subtable.len kept.now map.now requested.now in Ends (slot g) (2 * selector_records g) ends.now × (total ≡ length_of14 (rows g)) }
+    requires room { place + total ≤ length out.old }
     ensures { out.new ≡ sets out.old place (format14 (rows (job14 s.now subtable.at subtable.len kept.now map.now requested.now))) }
 {
     put_front(out, place, s, subtable, ends, total);

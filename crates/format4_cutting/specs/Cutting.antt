@@ -1,5 +1,5 @@
 -- The cutting of a list of pairs into the segments of a format 4 subtable, as docs/RULES.md tells it ("Format 4"): ranges, the
--- runs inside them, and which runs are committed together. The code goes pair by pair; that it gives the same is walk-cuts.
+-- runs inside them, and which runs are committed together. The code goes pair by pair; that it gives the same is walk_cuts.
 use Rattle.std.specs.Prelude.{ℕ, ◌+◌, ◌-◌, ◌*◌, ◌%◌, List, [], ◌∷◌, ◌++◌, map, Bool, true, false, not, leb, eqb, length}
 use Rattle.laws.specs.Choice.{pick, both}
 use Rattle.laws.specs.Lists.{Pair}

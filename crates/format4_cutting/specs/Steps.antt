@@ -1,5 +1,5 @@
 -- Inner: what the functions of this crate hand to each other and to those that walk with a range state; no promise of a size or of
--- bytes names it. That a walk cuts as Cutting.antt says is walk-cuts.
+-- bytes names it. That a walk cuts as Cutting.antt says is walk_cuts.
 use Rattle.std.specs.Prelude.{ℕ, ◌+◌, ◌-◌, ◌*◌, List, [], ◌∷◌, ◌++◌, Bool, true, false, not, ltb, leb, eqb, take, drop}
 use Rattle.laws.specs.Choice.{pick, both}
 use Rattle.laws.specs.Lists.{Pair}

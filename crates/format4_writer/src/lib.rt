@@ -109,8 +109,8 @@ pub fn write_format4(
     n: RangeCounter,
 )
     requires columns16 { Columns16 codes.now glyphs.now }
-    requires glyphs_value { size_of4 (pairs codes.now glyphs.now) ≡ Fits n }
-    requires n_in_bounds { at + length_of4 n ≤ length out.old }
+    requires counted { size_of4 (pairs codes.now glyphs.now) ≡ Fits n }
+    requires room { at + length_of4 n ≤ length out.old }
     ensures { out.new ≡ sets out.old at (format4 language (pairs codes.now glyphs.now)) }
 {
     put_header(out, at, language, n.segments, n.glyphs);

@@ -12,7 +12,7 @@ use cmap_promise::Answer;
 use job_input::{JOB_KEPT_MAX, JOB_MAP_MAX, JOB_PAIRS_MAX, JOB_REQUESTED_MAX, Located, Places};
 use job_output::Reply;
 
-// One byte more than the longest job: what is longer is damaged, whatever follows (`enough-read`).
+// One byte more than the longest job: what is longer is damaged, whatever follows (`enough_read`).
 pub const INPUT_ROOM: usize = 81951;
 
 // The lists of the job, lent to the call.
@@ -75,7 +75,7 @@ fn subset_from(
 pub fn answer(bytes: &[u8], out: &mut [u8; 32768]) -> Reply
     ensures value { result ≡ reply_to (parse bytes.now) }
     ensures out_after { out.new ≡ left_by (parse bytes.now) out.old }
-    ensures out_after_2 { written_by result out.new ≡ answered (parse bytes.now) }
+    ensures written { written_by result out.new ≡ answered (parse bytes.now) }
     ensures parts { Parts result out.new }
 {
     let mut codes = [0u32; JOB_PAIRS_MAX];

@@ -22,12 +22,12 @@ get_or_before [] ys i d h = absurd (omega arith)
 get_or_before (x ∷ xs) ys zero d h = refl
 get_or_before (x ∷ xs) ys (suc i) d h = get_or_before xs ys i d (omega arith)
 
-pub get_d_past : {A : Type 0} (xs : List A) (i : ℕ) (d : A) → length xs ≤ i → get_or xs i d ≡ d
-get_d_past [] i d h = refl
-get_d_past (x ∷ xs) zero d h = absurd (omega arith)
-get_d_past (x ∷ xs) (suc i) d h = get_d_past xs i d (omega arith)
+pub get_or_past : {A : Type 0} (xs : List A) (i : ℕ) (d : A) → length xs ≤ i → get_or xs i d ≡ d
+get_or_past [] i d h = refl
+get_or_past (x ∷ xs) zero d h = absurd (omega arith)
+get_or_past (x ∷ xs) (suc i) d h = get_or_past xs i d (omega arith)
 
-pub get_d_map : {A B : Type 0} (f : A → B) (xs : List A) (i : ℕ) (d : A) → get_or (map f xs) i (f d) ≡ f (get_or xs i d)
-get_d_map f [] i d = refl
-get_d_map f (x ∷ xs) zero d = refl
-get_d_map f (x ∷ xs) (suc i) d = get_d_map f xs i d
+pub get_or-map : {A B : Type 0} (f : A → B) (xs : List A) (i : ℕ) (d : A) → get_or (map f xs) i (f d) ≡ f (get_or xs i d)
+get_or-map f [] i d = refl
+get_or-map f (x ∷ xs) zero d = refl
+get_or-map f (x ∷ xs) (suc i) d = get_or-map f xs i d

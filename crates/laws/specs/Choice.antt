@@ -5,7 +5,7 @@ abbrev pub pick : {A : Type 0} → Bool → A → A → A
 pick true a b = a
 pick false a b = b
 
--- x if a is below b, at most b, or equal to b; else y. These stay shut: a proof goes by their rules, if-lt, else-lt and so on.
+-- x if a is below b, at most b, or equal to b; else y. These stay shut: a proof goes by their rules, `if_lt_lem`, `else_lt` and so on.
 unfoldable pub if_lt : {A : Type 0} → ℕ → ℕ → A → A → A
 if_lt a b x y = pick (ltb a b) x y
 

@@ -9,7 +9,7 @@ use lib.Seq.{length-take-le, take-suc-set, take-set-le, take-set-lt, drop-set-lt
 use borrow.Author.Tests.{ne_eqb}
 use Rattle.laws.specs.Choice.{if_eq}
 use Rattle.laws.proofs.LengthLaws.{length-map}
-use Rattle.laws.proofs.ReadLaws.{get_d_map}
+use Rattle.laws.proofs.ReadLaws.{get_or-map}
 use Rattle.number.specs.Limits.{records_max}
 use Rattle.plan.specs.declared.Why.TheVariants.{NotRetained, Skipped, Empty, TooLong, Covered}
 use Rattle.plan.specs.declared.Outcome.{Outcome}
@@ -80,7 +80,7 @@ pub ruleset telling = (told_1, told_2, told_3, told_4, told_5, told_6, told_7)
 
 at_told : (xs : List ℕ) (i : ℕ) → at (map tells xs) i ≡ tells (get_or xs i 0)
 unfolding tells told_by if_eq
-at_told xs i = get_d_map tells xs i 0
+at_told xs i = get_or-map tells xs i 0
 
 pub at_noted : (m k : ℕ) (notes : List ℕ) → k < m → at (outcomes_in m notes) k ≡ tells (get_or notes k 0)
 unfolding outcomes_in

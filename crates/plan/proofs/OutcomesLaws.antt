@@ -11,7 +11,7 @@ use borrow.Author.Tests.{ltb-true, ltb-false}
 use Rattle.laws.specs.Choice.{pick}
 use Rattle.laws.specs.Search.{first}
 use Rattle.laws.proofs.ChoiceLaws.{by_pick, by_leb}
-use Rattle.laws.proofs.ReadLaws.{get_or_before, get_d_past}
+use Rattle.laws.proofs.ReadLaws.{get_or_before, get_or_past}
 use Rattle.source_header.specs.Header.{record_count}
 use Rattle.source_records.specs.Records.{retained}
 use Rattle.plan_listing.specs.Job.{Job, glyph_count}
@@ -37,7 +37,7 @@ module _ (j : Job) where
 
   -- records from m on are not worked out yet
   pub outcome_past : (m k : ℕ) → m ≤ k → at (outcomes j m) k ≡ LeftOut NotRetained
-  outcome_past m k h = get_d_past (outcomes j m) k (LeftOut NotRetained) (omega (arith, length-outcomes m))
+  outcome_past m k h = get_or_past (outcomes j m) k (LeftOut NotRetained) (omega (arith, length-outcomes m))
 
   -- those before it keep what was worked out
   pub outcome_at : (m k : ℕ) → k < m → at (outcomes j m) k ≡ outcome_of j (outcomes j k) k

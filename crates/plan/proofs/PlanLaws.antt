@@ -22,7 +22,7 @@ use Rattle.plan.specs.Plan.{outcome_of, outcomes, plan}
 use Rattle.plan.specs.Prepared.{Prepared}
 use Rattle.plan.specs.Notes.{noted, outcomes_in, Fronted, Endings, Notebook, Leaves, Stays}
 use Rattle.plan.specs.Earlier.{Earlier}
-use Rattle.laws.proofs.ReadLaws.{get_or_before, get_d_past}
+use Rattle.laws.proofs.ReadLaws.{get_or_before, get_or_past}
 use Rattle.plan.proofs.NotedLaws.{length_noted, noted_on, row_tells, fronts_row, ends_row}
 use Rattle.plan.proofs.RecordNotesLaws.{fronted_same}
 use Rattle.plan.proofs.NotesLaws.{endings_start, endings_on, endings_same}
@@ -37,7 +37,7 @@ module _ (j : Job) (fs os tocs togs : List ℕ) (p : Prepared j fs os tocs togs)
   ready k h = record {
     pairs_ready = record {
       placed = placed j.source (records j) k p.counted h;
-      beside = record { glyphs = p.glyph_count_lem; flagged = record { rising = p.codes_rise; beside = p.code_flags } };
+      beside = record { glyphs = p.few_glyphs; flagged = record { rising = p.codes_rise; beside = p.code_flags } };
       columns = p.columns;
       few = p.few_pairs;
     };
@@ -53,7 +53,7 @@ module _ (j : Job) (fs os tocs togs : List ℕ) (p : Prepared j fs os tocs togs)
   rooms k h = record {
     counted = p.counted;
     below = h;
-    glyphs = p.glyph_count_lem;
+    glyphs = p.few_glyphs;
     rising = p.kept_rises;
     beside = p.kept-flags;
     again = p.kept-others;
@@ -65,7 +65,7 @@ module _ (j : Job) (fs os tocs togs : List ℕ) (p : Prepared j fs os tocs togs)
   prepared_again fs' os' tocs' togs' a b c d = record {
     counted = p.counted;
     few_records = p.few_records;
-    glyph_count_lem = p.glyph_count_lem;
+    few_glyphs = p.few_glyphs;
     codes_rise = p.codes_rise;
     few_pairs = p.few_pairs;
     columns = record { even = p.columns.even; codes = omega (arith, p.columns.codes); glyphs = omega (arith, p.columns.glyphs) };
@@ -87,7 +87,7 @@ small_snoc os o s h = record {
       by_leb (Short (at (os ++ (o ∷ [])) i)) (length os) i
       (λ a.
       by_leb (Short (at (os ++ (o ∷ [])) i)) (suc (length os)) i
-      (λ b. rw (get_d_past (os ++ (o ∷ [])) i (LeftOut NotRetained) (omega (arith, b, length_snoc os))) (record { below = omega arith }))
+      (λ b. rw (get_or_past (os ++ (o ∷ [])) i (LeftOut NotRetained) (omega (arith, b, length_snoc os))) (record { below = omega arith }))
       (λ b.
       let same : i ≡ length os = omega arith in
       rw (same, get_or_at os o [] (LeftOut NotRetained) (length os) refl) h))

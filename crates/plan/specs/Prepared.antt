@@ -13,7 +13,7 @@ use Rattle.format14.specs.Streams.{CodePoints}
 pub record Prepared (j : Job) (flags others tocodes toglyphs : List ℕ) : Type 0 where
   pub counted : Counted j.source (record_count j.source)
   pub few_records : record_count j.source ≤ records_max
-  pub glyph_count_lem : glyph_count j < 65536
+  pub few_glyphs : glyph_count j < 65536
   pub codes_rise : Rising j.codes
   pub few_pairs : length j.codes ≤ pairs_max
   pub columns : ColumnsWithRoom j.codes j.glyphs tocodes toglyphs

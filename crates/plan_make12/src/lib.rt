@@ -69,7 +69,7 @@ fn write12_of(
 // Measures and writes the format 12 subtable of the first m pairs.
 fn write12_first(out: &mut [u8], at: usize, language: u32, codes: &[u32], glyphs: &[u16], m: usize)
     requires front { Front m codes.now glyphs.now }
-    requires glyphs_in_bounds { at + length (format12 language (pairs (take m codes.now) (take m glyphs.now))) ≤ length out.old }
+    requires room { at + length (format12 language (pairs (take m codes.now) (take m glyphs.now))) ≤ length out.old }
     ensures { out.new ≡ sets out.old at (format12 language (pairs (take m codes.now) (take m glyphs.now))) }
 {
     let size = size12_of(codes, glyphs, m);
@@ -93,7 +93,7 @@ pub fn write12(
 )
     requires pairs_room { PairsRoom s.now k n codes.now glyphs.now flags.old tocodes.old toglyphs.old }
     requires fronts { Fronts s.now n codes.now glyphs.now k front }
-    requires k_in_bounds { at + length (format12 language (listed s.now n codes.now glyphs.now k)) ≤ length out.old }
+    requires room { at + length (format12 language (listed s.now n codes.now glyphs.now k)) ≤ length out.old }
     ensures { out.new ≡ sets out.old at (format12 language (listed s.now n codes.now glyphs.now k)) }
 {
     if 0 < front {

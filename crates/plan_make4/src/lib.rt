@@ -68,8 +68,8 @@ fn write4_of(
 )
     requires front { Front m codes.now glyphs.now }
     requires columns16 { Columns16 (take m codes.now) (take m glyphs.now) }
-    requires glyphs_value { size_of4 (pairs (take m codes.now) (take m glyphs.now)) ≡ Fits counter }
-    requires counter_in_bounds { at + length_of4 counter ≤ length out.old }
+    requires counted { size_of4 (pairs (take m codes.now) (take m glyphs.now)) ≡ Fits counter }
+    requires room { at + length_of4 counter ≤ length out.old }
     ensures { out.new ≡ sets out.old at (format4 language (pairs (take m codes.now) (take m glyphs.now))) }
 {
     format4_writer::write_format4(out, at, language, &codes[..m], &glyphs[..m], counter);

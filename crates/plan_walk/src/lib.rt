@@ -238,10 +238,10 @@ fn retained_outcome(
     notes: &mut [usize],
     k: usize,
 ) -> Outcome
-    requires fact { let j = job s.now codes.now glyphs.now kept.now map.now requested.now in
+    requires so_far { let j = job s.now codes.now glyphs.now kept.now map.now requested.now in
         Earlier j (outcomes_in k notes.old) k × Ready j k flags.old tocodes.old toglyphs.old × Notebook j k others.old notes.old }
     requires covered_room { CoveredRoom s.now (record_count s.now) k (length map.now) kept.now flags.old others.old }
-    requires k_value { retained s.now k ≡ true }
+    requires k_retained { retained s.now k ≡ true }
     ensures { let j = job s.now codes.now glyphs.now kept.now map.now requested.now in
         ((result ≡ retained_outcome j (outcomes_in k notes.old) k) × Short result) × Leaves j notes.old notes.new
         × Stays j (outcomes_in k notes.old) k result notes.old notes.new }
@@ -274,7 +274,7 @@ fn outcome_of(
     notes: &mut [usize],
     k: usize,
 ) -> Outcome
-    requires fact { let j = job s.now codes.now glyphs.now kept.now map.now requested.now in
+    requires so_far { let j = job s.now codes.now glyphs.now kept.now map.now requested.now in
         Earlier j (outcomes_in k notes.old) k × Ready j k flags.old tocodes.old toglyphs.old × Notebook j k others.old notes.old }
     requires covered_room { CoveredRoom s.now (record_count s.now) k (length map.now) kept.now flags.old others.old }
     ensures { let j = job s.now codes.now glyphs.now kept.now map.now requested.now in

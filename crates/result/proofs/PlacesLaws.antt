@@ -28,7 +28,7 @@ use Rattle.plan.specs.Outcomes.{is_written, maker_of, at}
 use Rattle.result.proofs.CountLaws.{Ith, count_few, sizes_split}
 use Rattle.result.proofs.LengthLaws.{length_record, length_records, length_result, offset_place}
 use Rattle.laws.specs.Choice.{pick}
-use Rattle.laws.proofs.ReadLaws.{get_d_past}
+use Rattle.laws.proofs.ReadLaws.{get_or_past}
 
 -- record m, not after record k, made the table that record k is written with
 pub record Maker (xs : List ℕ) (os : List Outcome) (k m : ℕ) : Type 0 where
@@ -110,7 +110,7 @@ module _ (j : Job) (os : List Outcome) (s : Sound j os) where
   pub written_below : (k : ℕ) → is_written (at os k) ≡ true → k < length os
   written_below k w =
       by_leb (k < length os) (length os) k
-      (λ h. absurd (false-true (rw (get_d_past os k (LeftOut NotRetained) h) at w)))
+      (λ h. absurd (false-true (rw (get_or_past os k (LeftOut NotRetained) h) at w)))
       (λ h. h)
 
   pub table_stands : (k : ℕ) → is_made (at os k) ≡ true → Stands (result_of j os) (new_offset j os k) (table_of j k)

@@ -22,7 +22,7 @@ use source::Kind;
 // ---- header and records
 
 fn put_header(out: &mut [u8], count: usize)
-    requires in_bounds { 4 ≤ length out.old }
+    requires room { 4 ≤ length out.old }
     requires count_le_records_max { count ≤ records_max }
     ensures { out.new ≡ sets out.old 0 (enc 2 0 ++ enc 2 count) }
 {
@@ -50,7 +50,7 @@ fn serialize_encoding_record(
     count: usize,
 )
     requires recorded { Recorded s.now m notes.now k count }
-    requires place_in_bounds { place + 8 ≤ length out.old }
+    requires room { place + 8 ≤ length out.old }
     ensures { let os = outcomes_in m notes.now in out.new ≡ sets out.old place (record_bytes (place_by_sizes os) s.now os k) }
 {
     let record = source_records::encoding_record(s, k);
@@ -62,7 +62,7 @@ fn serialize_encoding_record(
 // Writes the records behind the header.
 fn serialize_encoding_records(out: &mut [u8], s: &[u8], m: usize, notes: &[usize], count: usize)
     requires laid { Laid s.now m notes.now count }
-    requires count_in_bounds { 4 + 8 * count ≤ length out.old }
+    requires room { 4 + 8 * count ≤ length out.old }
     ensures { let os = outcomes_in m notes.now in out.new ≡ sets out.old 4 (records_from (place_by_sizes os) s.now os m 0) }
 {
     let mut place: usize = 4;
@@ -165,7 +165,7 @@ fn write_tables(
     count: usize,
 )
     requires writes_plan { WritesPlan (job s.now codes.now glyphs.now kept.now map.now requested.now) notes.now count flags.old tocodes.old toglyphs.old }
-    requires notes_in_bounds { result_length (outcomes_in (record_count s.now) notes.now) ≤ length out.old }
+    requires room { result_length (outcomes_in (record_count s.now) notes.now) ≤ length out.old }
     ensures { let m = record_count s.now in let os = outcomes_in m notes.now in
         out.new ≡ sets out.old (tables_start os) (tables_from (job s.now codes.now glyphs.now kept.now map.now requested.now) os m 0) }
 {
@@ -208,7 +208,7 @@ pub fn serialize_cmap(
     count: usize,
 )
     requires writes_plan { WritesPlan (job s.now codes.now glyphs.now kept.now map.now requested.now) notes.now count flags.old tocodes.old toglyphs.old }
-    requires notes_in_bounds { result_length (outcomes_in (record_count s.now) notes.now) ≤ length out.old }
+    requires room { result_length (outcomes_in (record_count s.now) notes.now) ≤ length out.old }
     ensures { let j = job s.now codes.now glyphs.now kept.now map.now requested.now in out.new ≡ sets out.old 0 (result_of j (plan j)) }
 {
     let m = source_header::record_count(s);

@@ -9,7 +9,7 @@ serialize_cmap-requires c = let w = c.requires in
     let out = c.args.out.now in
     record {
       writes_plan = writes_plan _ _ _ _ _ _ w.0 (accepted_counts _ _ w.0.planned out _ w.1 _ _ e);
-      notes_in_bounds = accepted_fits _ _ w.0.planned out _ w.1 _ _ e;
+      room = accepted_fits _ _ w.0.planned out _ w.1 _ _ e;
     }
 
 pub returns-in-Written : goal.returns-in-Written

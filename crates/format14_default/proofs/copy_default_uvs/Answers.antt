@@ -13,8 +13,8 @@ pub returns-then-out-to-lt4-clause-flags_after : goal.returns-then-out-to-lt4-cl
 unfolding new_default
 returns-then-out-to-lt4-clause-flags_after c = search rules
 
-pub copy_ranges-n-requires-clause-flags_in_bounds : goal.copy_ranges-n-requires-clause-flags_in_bounds
-copy_ranges-n-requires-clause-flags_in_bounds c = search new_rules
+pub copy_ranges-n-requires-clause-room : goal.copy_ranges-n-requires-clause-room
+copy_ranges-n-requires-clause-room c = search new_rules
 
 pub returns-then-n-eq0-clause-out_after : goal.returns-then-n-eq0-clause-out_after
 returns-then-n-eq0-clause-out_after c = search new_rules

@@ -12,9 +12,9 @@ pub copy_mappings-n-requires-clause-non_default_lent : goal.copy_mappings-n-requ
 unfolding new_non_default
 copy_mappings-n-requires-clause-non_default_lent c = search rules
 
-pub copy_mappings-n-requires-clause-requested_in_bounds : goal.copy_mappings-n-requires-clause-requested_in_bounds
+pub copy_mappings-n-requires-clause-room : goal.copy_mappings-n-requires-clause-room
 unfolding new_non_default
-copy_mappings-n-requires-clause-requested_in_bounds c = search writes
+copy_mappings-n-requires-clause-room c = search writes
 
 pub returns-then-n-eq0 : goal.returns-then-n-eq0
 unfolding new_non_default

@@ -8,8 +8,8 @@ use Rattle.format14_places.proofs.measure.Goals as goal
 pub loop-t-init : goal.loop-t-init
 loop-t-init c = (measuring_start _ _ _ _ (omega arith) (omega arith), (search sources_start, (search refusing, (search rules, (search rules, (search rules, (search rules, omega arith)))))))
 
-pub measure_one-table-requires-clause-fact : goal.measure_one-table-requires-clause-fact
-measure_one-table-requires-clause-fact c = (search before, (search before, search rules))
+pub measure_one-table-requires-clause-stored : goal.measure_one-table-requires-clause-stored
+measure_one-table-requires-clause-stored c = (search before, (search before, search rules))
 
 pub loop-t-preserved : goal.loop-t-preserved
 loop-t-preserved c = let made = c.measure_one-table in

@@ -10,8 +10,8 @@ loop-k-init c = search copies
 pub copy_record-requires-clause-distances : goal.copy_record-requires-clause-distances
 copy_record-requires-clause-distances c = search distances_less
 
-pub copy_record-requires-clause-place_in_bounds : goal.copy_record-requires-clause-place_in_bounds
-copy_record-requires-clause-place_in_bounds c = (search copies_room, omega arith)
+pub copy_record-requires-clause-room : goal.copy_record-requires-clause-room
+copy_record-requires-clause-room c = (search copies_room, omega arith)
 
 pub loop-k-preserved-then-used : goal.loop-k-preserved-then-used
 loop-k-preserved-then-used c = search copies

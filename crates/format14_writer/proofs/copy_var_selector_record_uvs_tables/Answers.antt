@@ -10,8 +10,8 @@ loop-k-init c = (search filling, search rules)
 pub overflow_sub-stop : goal.overflow_sub-stop
 overflow_sub-stop c = search far_fits
 
-pub copy_table-requires-clause-t_in_bounds : goal.copy_table-requires-clause-t_in_bounds
-copy_table-requires-clause-t_in_bounds c = search slot_room
+pub copy_table-requires-clause-room : goal.copy_table-requires-clause-room
+copy_table-requires-clause-room c = search slot_room
 
 pub loop-k-preserved-then-far-tail : goal.loop-k-preserved-then-far-tail
 loop-k-preserved-then-far-tail c = (search filling, omega arith)

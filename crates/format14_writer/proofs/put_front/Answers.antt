@@ -6,8 +6,8 @@ use Rattle.format14_writer.proofs.put_front.Goals as goal
 pub copy_records-requires-clause-distances : goal.copy_records-requires-clause-distances
 copy_records-requires-clause-distances c = search distances_here
 
-pub copy_records-requires-clause-n_in_bounds : goal.copy_records-requires-clause-n_in_bounds
-copy_records-requires-clause-n_in_bounds c = (search room_here, omega arith)
+pub copy_records-requires-clause-room : goal.copy_records-requires-clause-room
+copy_records-requires-clause-room c = (search room_here, omega arith)
 
 pub returns : goal.returns
 returns c = search front_is

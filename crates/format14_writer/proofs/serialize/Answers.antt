@@ -3,11 +3,11 @@ use borrow.Author.Rules.{rules}
 use Rattle.format14.proofs.WholeLaws.{distances, records_room, tables_stop, whole}
 use Rattle.format14_writer.proofs.serialize.Goals as goal
 
-pub copy_var_selector_record_uvs_tables-requires-clause-fact : goal.copy_var_selector_record_uvs_tables-requires-clause-fact
-copy_var_selector_record_uvs_tables-requires-clause-fact c = (search rules, search tables_stop)
+pub copy_var_selector_record_uvs_tables-requires-clause-ends : goal.copy_var_selector_record_uvs_tables-requires-clause-ends
+copy_var_selector_record_uvs_tables-requires-clause-ends c = (search rules, search tables_stop)
 
-pub put_front-requires-clause-fact : goal.put_front-requires-clause-fact
-put_front-requires-clause-fact c = (search distances, search records_room)
+pub put_front-requires-clause-distances : goal.put_front-requires-clause-distances
+put_front-requires-clause-distances c = (search distances, search records_room)
 
 pub returns : goal.returns
 returns c = search whole

@@ -8,7 +8,7 @@ use Rattle.job.proofs.answer.Goals as goal
 pub returns-in_default : goal.returns-in_default
 returns-in_default c =
     let told = answer_damaged _ c.args.out.now _ _ c.take_apart-located.ensures.value c.in_default.is c.damaged_reply.ensures in
-    record { value = told.0; out_after = told.1.0; out_after_2 = told.1.1.0; parts = told.1.1.1 }
+    record { value = told.0; out_after = told.1.0; written = told.1.1.0; parts = told.1.1.1 }
 
 pub subset_from-requires : goal.subset_from-requires
 subset_from-requires c = let e = c.take_apart-located.ensures in
@@ -17,4 +17,4 @@ subset_from-requires c = let e = c.take_apart-located.ensures in
 pub returns : goal.returns
 returns c =
     let told = answer_at _ _ _ _ c.take_apart-located.ensures.value _ _ _ c.in-At.is c.subset_from.ensures.value c.subset_from.ensures.out_len c.subset_from.ensures.out_after c.reply_of.ensures in
-    record { value = told.0; out_after = told.1.0; out_after_2 = told.1.1.0; parts = told.1.1.1 }
+    record { value = told.0; out_after = told.1.0; written = told.1.1.0; parts = told.1.1.1 }

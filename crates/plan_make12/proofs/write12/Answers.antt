@@ -5,8 +5,8 @@ use Rattle.plan_make12.proofs.write12.Goals as goal
 pub write12_first-requires-clause-front : goal.write12_first-requires-clause-front
 write12_first-requires-clause-front c = search (made, made12)
 
-pub write12_first-requires-clause-glyphs_in_bounds : goal.write12_first-requires-clause-glyphs_in_bounds
-write12_first-requires-clause-glyphs_in_bounds c = search (made, made12)
+pub write12_first-requires-clause-room : goal.write12_first-requires-clause-room
+write12_first-requires-clause-room c = search (made, made12)
 
 pub returns-then-front-gt0 : goal.returns-then-front-gt0
 returns-then-front-gt0 c = search (made, made12)
@@ -14,8 +14,8 @@ returns-then-front-gt0 c = search (made, made12)
 pub write12_first-requires-2-clause-front : goal.write12_first-requires-2-clause-front
 write12_first-requires-2-clause-front c = search (made, made12)
 
-pub write12_first-requires-2-clause-glyphs_in_bounds : goal.write12_first-requires-2-clause-glyphs_in_bounds
-write12_first-requires-2-clause-glyphs_in_bounds c = search (made, made12)
+pub write12_first-requires-2-clause-room : goal.write12_first-requires-2-clause-room
+write12_first-requires-2-clause-room c = search (made, made12)
 
 pub returns : goal.returns
 returns c = search (made, made12)

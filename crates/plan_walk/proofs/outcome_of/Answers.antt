@@ -4,8 +4,8 @@ use Rattle.plan.proofs.NotesLaws.{staying}
 use borrow.Author.Rules.{rules}
 use Rattle.plan_walk.proofs.outcome_of.Goals as goal
 
-pub retained_outcome-requires-clause-k_value : goal.retained_outcome-requires-clause-k_value
-retained_outcome-requires-clause-k_value c = search outcome_rules
+pub retained_outcome-requires-clause-k_retained : goal.retained_outcome-requires-clause-k_retained
+retained_outcome-requires-clause-k_retained c = search outcome_rules
 
 pub returns-then-retain_encoding_record_for_subset : goal.returns-then-retain_encoding_record_for_subset
 returns-then-retain_encoding_record_for_subset c = ((search outcome_rules, search rules), search rules, search rules)

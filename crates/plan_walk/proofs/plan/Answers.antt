@@ -7,8 +7,8 @@ use Rattle.plan_walk.proofs.plan.Goals as goal
 pub loop-k-init : goal.loop-k-init
 loop-k-init c = (search planning, search rules)
 
-pub outcome_of-o-requires-clause-fact : goal.outcome_of-o-requires-clause-fact
-outcome_of-o-requires-clause-fact c = (search planning, search planning, search planning)
+pub outcome_of-o-requires-clause-so_far : goal.outcome_of-o-requires-clause-so_far
+outcome_of-o-requires-clause-so_far c = (search planning, search planning, search planning)
 
 pub outcome_of-o-requires-clause-covered_room : goal.outcome_of-o-requires-clause-covered_room
 outcome_of-o-requires-clause-covered_room c = planning_rooms _ _ _ _ _ _ _ _ c.loop-k.invariant.0 (omega arith)

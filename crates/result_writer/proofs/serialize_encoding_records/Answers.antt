@@ -11,8 +11,8 @@ outcome_at-o-requires c = search recording_told
 pub serialize_encoding_record-requires-clause-recorded : goal.serialize_encoding_record-requires-clause-recorded
 serialize_encoding_record-requires-clause-recorded c = search recording_asks
 
-pub serialize_encoding_record-requires-clause-place_in_bounds : goal.serialize_encoding_record-requires-clause-place_in_bounds
-serialize_encoding_record-requires-clause-place_in_bounds c = search recording_room
+pub serialize_encoding_record-requires-clause-room : goal.serialize_encoding_record-requires-clause-room
+serialize_encoding_record-requires-clause-room c = search recording_room
 
 pub loop-k-preserved-then-is_written : goal.loop-k-preserved-then-is_written
 loop-k-preserved-then-is_written c = search recording

@@ -16,12 +16,12 @@ write4-requires-clause-fits4 c = search tables
 pub write12-requires-clause-fronts : goal.write12-requires-clause-fronts
 write12-requires-clause-fronts c = search tables
 
-pub write12-requires-clause-k_in_bounds : goal.write12-requires-clause-k_in_bounds
-write12-requires-clause-k_in_bounds c = search tables
+pub write12-requires-clause-room : goal.write12-requires-clause-room
+write12-requires-clause-room c = search tables
 
 pub serialize-requires : goal.serialize-requires
 serialize-requires c = let p = c.requires in
-    record { readable = search (readable14, p.0); kept_in_bounds = search rules; fact = (search (ends_14, p.2), search (size_14, p.1)); total_in_bounds = search rules }
+    record { readable = search (readable14, p.0); kept_in_bounds = search rules; ends = (search (ends_14, p.2), search (size_14, p.1)); room = search rules }
 
 pub returns-in-Format4 : goal.returns-in-Format4
 returns-in-Format4 c = search tables
