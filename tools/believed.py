@@ -112,7 +112,8 @@ def read_types(crate, found):
             one.lines = re.sub(r"//.*", "", body).split("\n")
             bare = re.sub(r"\([^)]*\)|\{[^}]*\}", "", "\n".join(one.lines)) if kind == "enum" else "\n".join(one.lines)
             one.members = re.findall(r"(\w+)\s*(?:,|$)" if kind == "enum" else r"(\w+)\s*:", bare, re.M)
-            one.types = {word: (other, f"{DECLARED}.{word}", word) for other, word in re.findall(r"^use (?:\w+::)*(\w+)::([A-Z]\w*);", text, re.M)}
+            used = re.findall(r"^use (?:\w+::)*(\w+)::(?:([A-Z]\w*)|\{([^}]*)\});", text, re.M)
+            one.types = {word: (other, f"{DECLARED}.{word}", word) for other, single, several in used for word in re.findall(r"\b[A-Z]\w*", single + several)}
             found[crate, f"{DECLARED}.{name}", name] = one
 
 

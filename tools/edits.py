@@ -1,27 +1,28 @@
 #!/usr/bin/env python3
-"""Writes docs/generated/EDITS.md: each must-fail edit, the wrong answer that it tries, and the facts at which it is refused. It reads
-what .ci/run or rt must-fail left under target/must-fail/. Run it at the repository's root:
+"""Writes docs/generated/EDITS.md: each must-fail edit, the wrong answer that it tries, and the fact at which it is refused. It reads
+what a run of .ci/run printed. Run it at the repository's root:
 
-    python3 tools/edits.py      # or with - to print the page"""
+    .ci/run > target/ci.log; python3 tools/edits.py target/ci.log      # with - too to print the page"""
 import glob
 import os
 import re
+import sys
 
 import generated
 
 HEAD = """# Edits that must fail
 
-`python3 tools/edits.py` writes this page whole, from what the prover said of each edit when `.ci/run` tried it.
+`python3 tools/edits.py LOG` writes this page whole, from what `.ci/run` printed of each edit.
 An edit makes one place of a crate wrong, in its code or in a definition, and the check must refuse it.
-"Refused at" has the facts that no longer hold: the function, or the file of laws, and the first need or law in it.
-A fact that only cites one of them is left out.
+"Refused at" has the first fact that no longer holds: the function, or the file of laws, and the goal or the law in it.
 
 | edit | what it says, and the edit breaks | changed | refused at |
 |---|---|---|---|
 """
 
-ERROR = re.compile(r"^\S*/must-fail/\w+/\w+/(?:proofs|specs)/(\S+?)\.antt:\d+:\d+: error: `([^`]+)`(.*)", re.M)
-NOTE = re.compile(r"^note: (\S*/must-fail/\w+/\w+/src/\S+?):(\d+):\d+: it is not proved [^\n]*\(`([^`]+)`\)", re.M)
+SAID = re.compile(r"^rt: must-fail (\w+/\w+)\.edit: (.*)", re.M)
+ERROR = re.compile(r"(?:\./)?(?:proofs|specs)/(\S+?)\.antt:\d+:\d+: error: `([^`]+)`")
+NOTE = re.compile(r"note: (src/\S+?):(\d+):\d+: it is not proved .*?\(`([^`]+)`\)")
 
 
 def told(edit):
@@ -40,28 +41,30 @@ def function_at(path, line):
     return names[-1] if names else "?"
 
 
-def refused_at(log):
-    """The first fact of each function or file that is refused by itself; one that cites a refused fact is not admitted, and no more is said of it."""
-    if not os.path.exists(log):
-        return "not run"
-    with open(log, encoding="utf-8") as f:
-        text = f.read()
-    facts = {}
-    for path, line, need in NOTE.findall(text):
-        facts.setdefault(f"`{function_at(path, int(line))}`, whose proof is the prover's own", need)
-    for path, name, said in ERROR.findall(text):
-        if "was not admitted" not in said:
-            place = path[:-len("/Proof")].replace("/", "::") if path.endswith("/Proof") else path
-            facts.setdefault(f"`{place}`", name)
-    return "; ".join(f"{place}: `{name}`" for place, name in facts.items()) or "see its log"
+def refused_at(crate, said):
+    """The first fact that is refused."""
+    if not said.startswith("refused"):
+        return said.split(":")[0] or "not run"
+    error, note = ERROR.search(said), NOTE.search(said)
+    if error:
+        place = re.sub(r"/(Answers|Invariants)$", "", error.group(1)).replace("/", "::")
+        return f"`{place}`: `{error.group(2)}`"
+    if note:
+        return f"`{function_at(f'crates/{crate}/{note.group(1)}', int(note.group(2)))}`: `{note.group(3)}`"
+    return "see the run"
 
 
 def main():
+    logs = [word for word in sys.argv[1:] if word != "-"]
+    if len(logs) != 1:
+        sys.exit("one LOG of .ci/run")
+    with open(logs[0], encoding="utf-8") as f:
+        said = dict(SAID.findall(f.read()))
     rows = []
     for edit in sorted(glob.glob("crates/*/must-fail/*.edit")):
         crate, name = edit.split("/")[1], os.path.basename(edit)[:-5]
         says, files = told(edit)
-        rows.append(f"| `{crate}/{name}` | {says} | {files} | {refused_at(f'target/must-fail/{crate}/{name}/.log')} |\n")
+        rows.append(f"| `{crate}/{name}` | {says} | {files} | {refused_at(crate, said.get(f'{crate}/{name}', ''))} |\n")
     generated.write("EDITS", HEAD + "".join(rows))
 
 

@@ -1,12 +1,13 @@
 #!/usr/bin/env python3
 """Writes docs/generated/FIGURES.md: functions, lines of code, definitions, laws and answers of each crate and each group of crates, the
-time and memory of its check, its must-fail edits, functions with many parameters, and how many definitions are to be believed.
+memory of its check, its must-fail edits, functions with many parameters, and how many definitions are to be believed.
 Run it at the repository's root, where nothing else runs:
 
     python3 tools/figures.py                # runs .ci/run and watches it; with - it prints the page
-    python3 tools/figures.py LOG PEAKS      # goes by an earlier run: what it printed, and each crate's KiB as JSON
+    python3 tools/figures.py LOG [PEAKS]    # goes by an earlier run: what it printed, and each crate's KiB as JSON
 
-A run is left in target/figures.log and target/figures.json. A LOG of another make may end as bash's `time` ends it."""
+A run is left in target/figures.log and target/figures.json. A LOG of another make may end as bash's `time` ends it.
+rt keeps on a machine what passed there: only a run of a machine that has kept nothing tells what everything costs."""
 import glob
 import json
 import os
@@ -31,16 +32,15 @@ Lines are those that are neither empty nor a comment.
 **Code** is `src/`, contracts included.
 **Definitions** are `specs/`, what a contract can say.
 **Laws** are the files of `proofs/` that stand for no one function.
-**Answers** are the functions' own proof files, of which the greater part is the prover's scaffold.
-**Check s** is the time of the crate's own check in the run, where several checks share the cores.
-**MiB** is the most memory that the prover held for the crate, or for the crate with an edit.
+**Answers** are the functions' own proof files: invariants, and answers to the goals that the check leaves.
+**MiB**, where the run was watched, is the most memory that the prover held for the crate, or for the crate with an edit.
 """
 
 # A group is the first word of its crates' names; the names of the library and of the program are given from outside.
-GROUPS = {"crustedlane": "host", "cmap_job": "job"}
+GROUPS = {"crustedlane": "host", "crustedlane_c": "host", "cmap_job": "job"}
 MANY, TOO_MANY = 8, 12
 FUNCTION = re.compile(r"^\s*(?:pub )?(?:extern \"C\" )?fn \w+\s*\(", re.M)
-COLUMNS = "functions | code | definitions | laws | answers | edits | check s"
+COLUMNS = "functions | code | definitions | laws | answers | edits"
 
 
 def lines_of(paths, comment):
@@ -82,7 +82,7 @@ def counted(crate):
     src = glob.glob(f"crates/{crate}/src/**/*.rt", recursive=True)
     specs = glob.glob(f"crates/{crate}/specs/**/*.antt", recursive=True)
     proofs = glob.glob(f"crates/{crate}/proofs/**/*.antt", recursive=True)
-    answers = [p for p in proofs if os.path.basename(p) == "Proof.antt"]
+    answers = [p for p in proofs if os.path.basename(p) in ("Answers.antt", "Invariants.antt")]
     laws = [p for p in proofs if p not in answers]
     functions = functions_of(src)
     return functions, [len(functions), lines_of(src, "//"), lines_of(specs, "--"), lines_of(laws, "--"), lines_of(answers, "--"),
@@ -100,6 +100,7 @@ def groups():
         for line in f:
             if ":" in line and not line.startswith("#"):
                 crate, others = line.split(":")
+                crate = crate.split()[0]
                 stands.setdefault(group_of(crate), set()).update(group_of(other) for other in others.split())
     order = []
     while len(order) < len(stands):
@@ -214,12 +215,10 @@ def summed(rows):
 
 
 def page(log, peaks):
-    seconds = {name: int(n) for name, n in re.findall(r"^rt: (\w+) proved \((\d+) s\)", log, re.M)}
     order = generated.crates()
     rows, functions = {}, {}
     for crate in order:
-        functions[crate], numbers = counted(crate)
-        rows[crate] = numbers + [seconds.get(crate)]
+        functions[crate], rows[crate] = counted(crate)
     sums = summed(rows.values())
     every = [n for crate in order for n in functions[crate]]
     text = HEAD
@@ -232,12 +231,12 @@ def page(log, peaks):
     for group in groups():
         held = [crate for crate in order if group_of(crate) == group]
         by_group.append([group] + commas([len(held)] + summed(rows[crate] for crate in held)))
-    text += table(f"group | crates | {COLUMNS}", ["---"] + 8 * ["---:"], by_group + [["**all**"] + commas([len(order)] + sums)])
+    text += table(f"group | crates | {COLUMNS}", ["---"] + 7 * ["---:"], by_group + [["**all**"] + commas([len(order)] + sums)])
     text += "\n## By crate\n\n"
     held = {crate: peak // 1024 for crate, peak in peaks.items()}
-    by_crate = [[crate] + commas(rows[crate] + [held.get(crate)]) for crate in order]
-    last = [f"**all {len(order)}**"] + commas(sums) + [f"at most {max(held.values()):,}" if held else ""]
-    text += table(f"crate | {COLUMNS} | MiB", ["---"] + 8 * ["---:"], by_crate + [last])
+    by_crate = [[crate] + commas(rows[crate] + [held.get(crate)] * bool(held)) for crate in order]
+    last = [f"**all {len(order)}**"] + commas(sums) + ([f"at most {max(held.values()):,}"] if held else [])
+    text += table(f"crate | {COLUMNS}" + " | MiB" * bool(held), ["---"] + (6 + bool(held)) * ["---:"], by_crate + [last])
     text += "\n## Functions with many parameters\n\n"
     wide = [[crate] + commas(many(functions[crate])) for crate in order if many(functions[crate])[0]]
     text += table(f"crate | more than {MANY} | more than {TOO_MANY}", ["---", "---:", "---:"], wide + [["**all**"] + commas(many(every))])
@@ -246,13 +245,15 @@ def page(log, peaks):
 
 def main():
     files = [word for word in sys.argv[1:] if word != "-"]
-    if len(files) == 2:
+    if len(files) > 2:
+        sys.exit("at most LOG and PEAKS")
+    if files:
         with open(files[0], encoding="utf-8") as f:
             log = f.read()
-        with open(files[1], encoding="utf-8") as f:
-            peaks = json.load(f)
-    elif files:
-        sys.exit("LOG and PEAKS, or neither")
+        peaks = {}
+        if len(files) == 2:
+            with open(files[1], encoding="utf-8") as f:
+                peaks = json.load(f)
     else:
         log, peaks = run()
     generated.write("FIGURES", page(log, peaks))

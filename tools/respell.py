@@ -1,7 +1,10 @@
 #!/usr/bin/env python3
 """Respells the repository's own definitions, laws and fields as CONTRACT_STYLE of the kit asks.
 
-usage: python3 tools/respell.py [--list]      at the top of the repository, once, right after the kit's port.py
+It was run once, right after the kit's port.py, on the commit that docs/PORT.md names first; it stays so that a reader can make that
+step again. The tree as it stands now needs it no more.
+
+usage: python3 tools/respell.py [--list]      at the top of the repository
 
 A word is in snake case. A dash joins two names that the statement itself has, as in `length-append`; a plain word is
 added with `_`, as in `be_ext`. Types, modules, functions of src/, goals and generated names are not touched.

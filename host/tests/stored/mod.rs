@@ -1,6 +1,6 @@
 //! The stored jobs: `stdin`, `stdout` and `names` as `tools/pack_vectors.py` writes them, in `crates/job_vectors` or the
 //! directory that CRUSTEDLANE_VECTORS names by an absolute path, since Cargo runs tests in the package's folder. The
-//! answers are the program's own, since `rt check` holds it to them.
+//! answers are the program's own, since `rt ci job_vectors` holds it to them.
 use std::path::{Path, PathBuf};
 
 /// A stored job with its answer.
