@@ -1,2 +1,3 @@
 pub mod LaidLaws
+pub mod Relend
 pub mod SizesLaws
