@@ -2,7 +2,7 @@
 """Writes docs/generated/EDITS.md: each must-fail edit, the wrong answer that it tries, and the fact at which it is refused. It reads
 what a run of .ci/run printed. Run it at the repository's root:
 
-    .ci/run > target/ci.log; python3 tools/edits.py target/ci.log      # with - too to print the page"""
+    mkdir -p target && .ci/run > target/ci.log; python3 tools/edits.py target/ci.log      # with - too to print the page"""
 import glob
 import os
 import re
@@ -35,9 +35,12 @@ def told(edit):
 
 
 def function_at(path, line):
-    """The function whose code stands at that line."""
+    """The function whose code stands at that line; an attribute belongs to the function below it."""
     with open(path, encoding="utf-8") as f:
-        names = re.findall(r"^\s*(?:pub )?(?:extern \"C\" )?fn (\w+)", "".join(f.readlines()[:line]), re.M)
+        lines = f.readlines()
+    while line < len(lines) and lines[line - 1].lstrip().startswith("#["):
+        line += 1
+    names = re.findall(r"^\s*(?:pub )?(?:extern \"C\" )?fn (\w+)", "".join(lines[:line]), re.M)
     return names[-1] if names else "?"
 
 

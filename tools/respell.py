@@ -17,7 +17,6 @@ import sys
 
 TOKEN = re.compile(r"[^\s(){}\[\],;:λ.|]+")
 SIGNATURE = re.compile(r"^(\s*)((?:pub |abbrev |unfoldable )*)([^\s(){}\[\],;:.|]+) : (.*)$")
-CLAUSE = re.compile(r"^\s+→|^\s{2,}")
 # laws that port.py gave a definition's new name
 LAWS = {"put_one": "put_one_lem", "value_in": "value_in_lem"}
 LAWS_IN = ("number/proofs/RowLaws.antt", "format4_columns/proofs/PlacesLaws.antt", "format4_lookup/proofs/LookupLaws.antt")
