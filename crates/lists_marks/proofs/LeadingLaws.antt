@@ -1,5 +1,5 @@
--- Flags of which the first ones alone are set: found by two walks, and what is kept by them is the front.
-use Prim.Native.Nat.{ℕ, zero, suc, ◌+◌, ◌-◌, ◌<◌, ◌≤◌}
+-- Flags of which the first ones alone are set: found by two searches, and what is kept by them is the front.
+use Prim.Native.Nat.{ℕ, zero, suc, ◌-◌, ◌<◌, ◌≤◌}
 use mathlib.Core.Path.{◌≡◌, refl, sym, ap, ◌∙◌}
 use mathlib.Core.List.{List, [], ◌∷◌}
 use mathlib.Core.Bool.{Bool, true, false, not}
@@ -9,28 +9,10 @@ use lib.ListN.{length, get_or, take}
 use borrow.Author.Tests.{eq-eqb, ne_eqb, eqb-true, eqb-false}
 use Rattle.laws.specs.Search.{first}
 use Rattle.laws.proofs.ChoiceLaws.{by_leb, if_lt_lem, else_lt}
-use Rattle.laws.proofs.SearchLaws.{Finding, looking_on, looking_found, looking_none, looking_start, seeking_start}
 use Rattle.laws.proofs.FirstLaws.{first_before, first_none}
 use Rattle.lists_marks.specs.Marks.{is_clear, is_set, front_of, kept}
 
--- ---- the two walks
-
-module _ (fs : List ℕ) (n i found : ℕ) where
-  pub clear_found : Finding (is_clear fs) n i found → i < n → get_or fs i 0 ≡ 0 → i ≡ found
-  clear_found l h e = looking_found l h (eq-eqb (get_or fs i 0) 0 e)
-
-  pub clear_on : Finding (is_clear fs) n i found → i < n → (get_or fs i 0 ≡ 0 → ⊥) → Finding (is_clear fs) n (i + 1) found
-  clear_on l h e = looking_on l h (ne_eqb (get_or fs i 0) 0 e)
-
-  pub set_found : Finding (is_set fs) n i found → i < n → (get_or fs i 0 ≡ 0 → ⊥) → i ≡ found
-  set_found l h e = looking_found l h (ap not (ne_eqb (get_or fs i 0) 0 e))
-
-  pub set_on : Finding (is_set fs) n i found → i < n → get_or fs i 0 ≡ 0 → Finding (is_set fs) n (i + 1) found
-  set_on l h e = looking_on l h (ap not (eq-eqb (get_or fs i 0) 0 e))
-
-pub ruleset finding = (looking_start, seeking_start, looking_none, clear_found, clear_on, set_found, set_on)
-
--- ---- both together
+-- ---- the two searches together
 
 module _ (fs : List ℕ) (n m r : ℕ) (e : m ≡ first (is_clear fs) n 0) (q : r ≡ first (is_set fs) (n - m) m) where
   pub front_none : r < n → 0 ≡ front_of fs n

@@ -1,3 +1,4 @@
 pub mod BelowLaws
 pub mod MarksLaws
 pub mod LeadingLaws
+pub mod FoundLaws

@@ -3,12 +3,13 @@ use Prim.Native.Nat.{ℕ, zero, suc, ◌+◌, ◌-◌, ◌<◌, ◌≤◌}
 use mathlib.Core.Path.{◌≡◌, refl, sym, ap, ◌∙◌}
 use mathlib.Core.List.{List, [], ◌∷◌, ◌++◌}
 use mathlib.Core.Bool.{Bool, true, false}
-use native.Mathlib.Nat.{not-suc-le-zero, zero-add, add-zero, suc-add, add-suc, sub-zero}
+use native.Mathlib.Nat.{not-suc-le-zero, zero-add, add-zero, suc-add, add-suc}
 use native.Mathlib.Numerals.{add-one}
 use native.Mathlib.Omega.{arith}
 use lib.Dec.{eqb}
-use lib.ListN.{length, get_or, drop, set, replicate, length-set, length-replicate, drop_of_length-le}
+use lib.ListN.{length, get_or, take, drop, set, replicate, length-set, length-replicate, drop_of_length-le}
 use lib.Seq.{sets, length-sets, drop-cons}
+use Rattle.std.proofs.lemmas.List.{length-take-le}
 use borrow.Author.Tests.{lt-ltb, le-ltb, le-leb, lt-leb, eq-eqb, ne_eqb}
 use Rattle.laws.specs.Choice.{pick}
 use Rattle.laws.specs.Lists.{Rising, keep}
@@ -196,11 +197,7 @@ module _ {v : ℕ} {fs₀ fs : List ℕ} {low high i : ℕ} (l : Filling v fs₀
       let m : high - i ≡ 0 = omega arith in
       rw m at l.left
 
--- from the front
-pub filling_front : {v : ℕ} {fs₀ fs : List ℕ} {n i : ℕ} → Filling v fs₀ fs 0 n i → n ≤ i → fs ≡ sets fs₀ 0 (replicate n v)
-filling_front {n = n} l h = rw (sub-zero n) at (filling_done l h)
-
-pub ruleset filling = (filling_start, filling_on, filling_done, filling_front)
+pub ruleset filling = (filling_start, filling_on, filling_done)
 
 -- a part filled by a call
 filled_parts : (v k m i : ℕ) (fs : List ℕ) → sets fs i (replicate (k + m) v) ≡ sets (sets fs i (replicate k v)) (i + k) (replicate m v)
@@ -231,6 +228,10 @@ module _ (v : ℕ) (fs : List ℕ) (low high : ℕ) where
 
   pub filled_length : (fs' : List ℕ) → low < high → fs' ≡ sets (set fs low v) (low + 1) (replicate (high - (low + 1)) v) → length fs' ≡ length fs
   filled_length fs' h e = rw (filled_more fs' h e) (length-sets fs low (replicate (high - low) v))
+
+-- what the library's fill leaves of the first k flags
+pub front_filled : (v k : ℕ) (fs part : List ℕ) → k ≤ length fs → part ≡ replicate (length (take k fs)) v → part ++ drop k fs ≡ sets fs 0 (replicate k v)
+front_filled v k fs part h e = rw (e, length-take-le k fs h, sets_front fs (replicate k v) (rw length-replicate h), length-replicate)
 
 pub ruleset filled = (filled_none, filled_one, filled_more, filled_length)
 

@@ -19,12 +19,6 @@ use Rattle.lists_order.specs.Order.{falls, exceeds, not_below_next, reaches_coun
 
 -- ---- a list that breaks nothing
 
-pub no_numbers : (xs : List ℕ) → length xs ≡ 0 → false ≡ falls xs
-unfolding falls some
-no_numbers xs h =
-    let e : length xs - 1 ≡ 0 = omega arith in
-    rw e
-
 pub rising : (xs : List ℕ) → falls xs ≡ false → Rising xs
 unfolding falls
 rising xs e = record {

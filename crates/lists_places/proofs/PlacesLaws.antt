@@ -16,11 +16,11 @@ use Rattle.lists_marks.specs.Marks.{below, Bound, Halving}
 use Rattle.lists_places.specs.Places.{place_of, places_of}
 
 module _ (ps xs₀ xs : List ℕ) (b : ℕ) (l : Storing (place_of ps) (length xs₀) xs₀ xs b) where
-  pub noting_on : (i : ℕ) → b < length xs → Bound ps (128 * b) i → Storing (place_of ps) (length xs₀) xs₀ (set xs b (i % 256 ^ 4)) (b + 1)
+  pub noting_on : (i : ℕ) → b < length xs₀ → Bound ps (128 * b) i → Storing (place_of ps) (length xs₀) xs₀ (set xs b (i % 256 ^ 4)) (b + 1)
   unfolding place_of
   noting_on i h e = storing_on l (i % 256 ^ 4) (omega (arith, l.same)) (rw e.is)
 
-  pub noting_done : length xs ≤ b → xs ≡ places_of ps (length xs₀)
+  pub noting_done : length xs₀ ≤ b → xs ≡ places_of ps (length xs₀)
   unfolding places_of
   noting_done h = storing_done l (omega (arith, l.same)) ∙ sets_whole xs₀ (each (place_of ps) (length xs₀) 0) (length-each (place_of ps) (length xs₀) 0)
 

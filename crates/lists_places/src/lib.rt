@@ -18,12 +18,10 @@ pub fn note_places(places: &mut [u32], points: &[u32])
     requires { (length places.old ≤ 8705) × Rising points.now }
     ensures { places.new ≡ places_of points.now (length places.old) }
 {
-    let mut b = 0;
     let mut i = 0;
-    while b < places.len() {
+    for (b, place) in places.iter_mut().enumerate() {
         i = lists_spans::count_at(points, 128 * b as u64, i);
-        places[b] = (i % 4294967296) as u32;
-        b += 1;
+        *place = (i % 4294967296) as u32;
     }
 }
 
@@ -33,10 +31,7 @@ fn is_within(points: &[u32], c: u64, low: usize, high: usize) -> bool
     requires low_in_bounds { (low ≤ length points.now) × (high ≤ length points.now) }
     ensures { result ≡ both (leb low (below points.now c)) (leb (below points.now c) high) }
 {
-    if lists_spans::reaches(points, c, low) {
-        return lists_spans::suffices(points, c, high);
-    }
-    false
+    lists_spans::reaches(points, c, low) && lists_spans::suffices(points, c, high)
 }
 
 // How many points are below c, with few steps where they are low at least and high at most.
@@ -47,10 +42,8 @@ fn count_within(points: &[u32], c: u64, low: usize, high: usize) -> usize
     if points.len() < low {
         return lists_marks::count_near(points, c, 0);
     }
-    if high <= points.len() {
-        if is_within(points, c, low, high) {
-            return lists_marks::halve(points, c, low, high);
-        }
+    if high <= points.len() && is_within(points, c, low, high) {
+        return lists_marks::halve(points, c, low, high);
     }
     lists_marks::count_near(points, c, low)
 }
@@ -62,12 +55,12 @@ pub fn count_by(points: &[u32], c: u32, places: &[u32], near: usize) -> usize
 {
     let b = (c / 128) as usize;
     if places.len() <= b + 1 {
-        return lists_marks::count_near(points, c as u64, near);
+        return lists_marks::count_near(points, u64::from(c), near);
     }
     let low = places[b] as usize;
     let high = places[b + 1] as usize;
     if high == low + 128 {
-        return lists_spans::count_at(points, c as u64, low + (c % 128) as usize);
+        return lists_spans::count_at(points, u64::from(c), low + (c % 128) as usize);
     }
-    count_within(points, c as u64, low, high)
+    count_within(points, u64::from(c), low, high)
 }

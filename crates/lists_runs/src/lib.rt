@@ -8,10 +8,7 @@ ghost use Rattle.lists_runs.specs.Runs.{breaks, RunEndsAt};
 fn breaks(c: u32, g: u16, d: u32, h: u16) -> bool
     ensures { result ≡ breaks c g d h }
 {
-    if d as u64 == c as u64 + 1 {
-        return h as u32 != g as u32 + 1;
-    }
-    true
+    u64::from(d) != u64::from(c) + 1 || u32::from(h) != u32::from(g) + 1
 }
 
 // The first place behind i whose pair does not go on from the one before it; the number of pairs where there is none.
@@ -20,12 +17,7 @@ pub fn run_end(codes: &[u32], glyphs: &[u16], i: usize) -> usize
     requires i_in_bounds { i < length codes.now }
     ensures { RunEndsAt codes.now glyphs.now i result }
 {
-    let mut k = i + 1;
-    while k < codes.len() {
-        if breaks(codes[k - 1], glyphs[k - 1], codes[k], glyphs[k]) {
-            return k;
-        }
-        k += 1;
-    }
-    k
+    laws::first_from(i + 1, codes.len(), |k| {
+        breaks(codes[k - 1], glyphs[k - 1], codes[k], glyphs[k])
+    })
 }

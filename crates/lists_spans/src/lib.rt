@@ -11,10 +11,7 @@ pub fn reaches(points: &[u32], c: u64, i: usize) -> bool
     requires i_in_bounds { i ≤ length points.now }
     ensures { result ≡ leb i (below points.now c) }
 {
-    if 0 < i {
-        return (points[i - 1] as u64) < c;
-    }
-    true
+    i == 0 || u64::from(points[i - 1]) < c
 }
 
 // Whether none but the first i points are below c.
@@ -23,10 +20,7 @@ pub fn suffices(points: &[u32], c: u64, i: usize) -> bool
     requires i_in_bounds { i ≤ length points.now }
     ensures { result ≡ leb (below points.now c) i }
 {
-    if i < points.len() {
-        return c <= points[i] as u64;
-    }
-    true
+    points.len() <= i || c <= u64::from(points[i])
 }
 
 // Whether i points are below c: two looks, no search.
@@ -37,10 +31,7 @@ fn is_count(points: &[u32], c: u64, i: usize) -> bool
     if points.len() < i {
         return false;
     }
-    if reaches(points, c, i) {
-        return suffices(points, c, i);
-    }
-    false
+    reaches(points, c, i) && suffices(points, c, i)
 }
 
 // How many points are below c, with no search where `near` is that count.
@@ -60,7 +51,7 @@ fn count_upto(points: &[u32], start: u32, end: u32, low: usize) -> usize
     requires bound { Bound points.now start low }
     ensures { Bound points.now (end + 1) result }
 {
-    let past = end as u64 + 1;
+    let past = u64::from(end) + 1;
     if is_count(points, past, low) {
         return low;
     }
@@ -81,10 +72,7 @@ pub fn is_passed(points: &[u32], start: u32, end: u32, near: usize) -> bool
     if points.len() < near {
         return false;
     }
-    if reaches(points, start as u64, near) {
-        return suffices(points, end as u64 + 1, near);
-    }
-    false
+    reaches(points, u64::from(start), near) && suffices(points, u64::from(end) + 1, near)
 }
 
 // The places of the points of a stretch: from low on, up to high.
@@ -95,6 +83,7 @@ pub struct Span {
 }
 
 // Whether start stands at near, and all up to end behind it: two looks at points that rise tell it.
+// The tests return one by one: joined by `&&`, each would have to be split again in the proof.
 fn is_listed(points: &[u32], start: u32, end: u32, near: usize) -> bool
     ensures { result ≡ listed_whole points.now start end near }
 {
@@ -120,7 +109,7 @@ fn span_search(points: &[u32], start: u32, end: u32, near: usize) -> Span
     ensures bound { Bound points.now start result.low }
     ensures bound_2 { Bound points.now (end + 1) result.high }
 {
-    let low = count_at(points, start as u64, near);
+    let low = count_at(points, u64::from(start), near);
     let high = count_upto(points, start, end, low);
     Span { low, high }
 }

@@ -10,9 +10,10 @@ pub fn byte_at(s: &[u8], at: usize) -> u32
     requires { at < length s.now }
     ensures { Byte s.now at result }
 {
-    s[at] as u32
+    u32::from(s[at])
 }
 
+// Each width is the one below and a byte: the library reads no number of three bytes, and its others would be proved apart.
 pub fn u16_at(s: &[u8], at: usize) -> u32
     requires { at + 2 ≤ length s.now }
     ensures { Num 2 s.now at result }

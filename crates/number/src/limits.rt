@@ -18,7 +18,7 @@ pub const TABLES_MAX: usize = 2 * SELECTORS_MAX;
 
 pub const FORMAT4_LENGTH_MAX: usize = 65535;
 
-// What a list of code points holds.
+// What a list of code points holds. docs/RULES.md, "The shape of some places", asks for the limit as an associated constant.
 #[derive(Clone, Copy)]
 pub struct CodePoint {
     pub value: u32,
@@ -28,7 +28,7 @@ impl CodePoint {
     pub const UNICODE_MAX: u32 = 0x10FFFF;
 }
 
-// What a pair's glyph, and the map, hold.
+// What a pair's glyph, and the map, hold; in the form of the limit of code points.
 #[derive(Clone, Copy)]
 pub struct NewGlyph {
     pub value: u16,

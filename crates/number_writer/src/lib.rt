@@ -12,6 +12,7 @@ pub fn put_u16(out: &mut [u8], at: usize, v: u32)
     out[at + 1] = (v % 256) as u8;
 }
 
+// As each reader of `number`, a writer is the one of the width below and a byte: the library has no number of three bytes.
 pub fn put_u24(out: &mut [u8], at: usize, v: u32)
     requires { at + 3 ≤ length out.old }
     ensures { out.new ≡ put 3 out.old at v }
@@ -31,9 +32,6 @@ pub fn put_u32(out: &mut [u8], at: usize, v: u32)
 pub fn u24_bytes(v: u32) -> [u8; 3]
     ensures { result ≡ enc 3 v }
 {
-    [
-        (v / 256 / 256 % 256) as u8,
-        (v / 256 % 256) as u8,
-        (v % 256) as u8,
-    ]
+    let [_, high, middle, low] = v.to_be_bytes();
+    [high, middle, low]
 }

@@ -1,13 +1,5 @@
--- What is left to clear, cleared from here, gives the whole.
-use Prim.Native.Nat.{◌-◌}
-use Rattle.lists_marks.proofs.MarksLaws.{filling}
+use Rattle.lists_marks.proofs.MarksLaws.{front_filled}
 use Rattle.lists_flags.proofs.clear.Goals as goal
 
-pub loop-i-init : goal.loop-i-init
-loop-i-init c = search filling
-
-pub loop-i-preserved : goal.loop-i-preserved
-loop-i-preserved c = search filling
-
 pub returns : goal.returns
-returns c = search filling
+returns c = front_filled _ _ _ _ c.requires (c.fill.ensures.after (λ y e. e))

@@ -1,16 +1,17 @@
 -- What is left of the pairs, copied from k, gives the whole.
-use Prim.Native.Nat.{◌-◌}
 use Rattle.lists_marks.proofs.MarksLaws.{pairing}
 use Rattle.lists_flags.proofs.copy_marked.Goals as goal
+use Rattle.lists_flags.proofs.copy_marked.Goals.{then-flags-i-ne0, else-flags-i-ne0}
 
 pub loop-i-init : goal.loop-i-init
 loop-i-init c = search pairing
 
-pub loop-i-preserved-then-flag-ne0 : goal.loop-i-preserved-then-flag-ne0
-loop-i-preserved-then-flag-ne0 c = search pairing
-
 pub loop-i-preserved : goal.loop-i-preserved
-loop-i-preserved c = search pairing
+loop-i-preserved c =
+    elim c.if-flags-i-ne0.branch [
+      | then-flags-i-ne0 w ↦ rw (w.tocodes-is, w.toglyphs-is, w.k-is) (search pairing)
+      | else-flags-i-ne0 w ↦ rw (w.tocodes-is, w.toglyphs-is, w.k-is) (search pairing)
+    ]
 
 pub returns-clause-value : goal.returns-clause-value
 returns-clause-value c = search pairing

@@ -1,5 +1,4 @@
 -- What is left to set, set from here, gives the whole.
-use Prim.Native.Nat.{◌-◌}
 use Rattle.lists_marks.proofs.MarksLaws.{filling}
 use Rattle.lists_flags.proofs.set_all.Goals as goal
 

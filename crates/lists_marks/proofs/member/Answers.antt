@@ -1,9 +1,14 @@
--- In a rising list c stands behind all that are below it, or nowhere.
-use Rattle.lists_marks.proofs.BelowLaws.{halving}
+-- The closure reads a number, and the search ends at x or at the gap for it.
+use Rattle.std.proofs.Common.{rules, ◌∙◌}
+use Rattle.std.proofs.lemmas.List.Sorted.{answers_always}
+use Rattle.lists_marks.proofs.FoundLaws.{found_told}
 use Rattle.lists_marks.proofs.member.Goals as goal
 
-pub returns-then-i-points : goal.returns-then-i-points
-returns-then-i-points c = search halving
-
 pub returns : goal.returns
-returns c = search halving
+returns g c =
+    let facts = c.binary_search_by_key.ensures in
+    let by_number = facts.position g.T.Unsigned.value (answers_always _ _ _ (λ f a r g called. search rules)) in
+    let laws = g.met.T.Unsigned in
+    rw (← c.value.ensures)
+    (c.is_ok.ensures.value
+    ∙ found_told g.T.Unsigned.value c.args.xs.now _ c.value.result c.args.x (laws.values_length _) (laws.value_at _) c.requires _ facts.bound by_number)

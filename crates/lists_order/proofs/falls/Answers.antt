@@ -1,23 +1,7 @@
-use Rattle.lists_order.proofs.OrderLaws.{no_numbers}
+use Rattle.std.proofs.Common.{rules}
 use Rattle.lists_order.specs.Order.{falls}
-use Rattle.laws.proofs.SearchLaws.{asking}
-use Prim.Native.Nat.{◌-◌}
-use borrow.Author.Rules.{rules}
 use Rattle.lists_order.proofs.falls.Goals as goal
-
-pub returns-then-xs-eq0 : goal.returns-then-xs-eq0
-returns-then-xs-eq0 c = search (rules, no_numbers)
-
-pub loop-i-init : goal.loop-i-init
-loop-i-init c = search (rules, asking)
-
-pub returns-then-not_below : goal.returns-then-not_below
-unfolding falls
-returns-then-not_below c = search (rules, asking)
-
-pub loop-i-preserved : goal.loop-i-preserved
-loop-i-preserved c = search (rules, asking)
 
 pub returns : goal.returns
 unfolding falls
-returns c = search (rules, asking)
+returns g c = search rules

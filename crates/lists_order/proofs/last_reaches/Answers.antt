@@ -1,9 +1,10 @@
 -- The last number of a rising list tells of all.
+use Rattle.std.proofs.Common.{rules}
 use Rattle.lists_order.proofs.OrderLaws.{by_Last}
 use Rattle.lists_order.proofs.last_reaches.Goals as goal
 
-pub returns-then-xs-gt0 : goal.returns-then-xs-gt0
-returns-then-xs-gt0 c = search by_Last
+pub returns-in-Some : goal.returns-in-Some
+returns-in-Some c = search (rules, by_Last)
 
-pub returns : goal.returns
-returns c = search by_Last
+pub returns-in-None : goal.returns-in-None
+returns-in-None c = search (rules, by_Last)

@@ -1,4 +1,3 @@
-use Prim.Native.Nat.{◌-◌}
 use lib.ListN.{length}
 use Rattle.laws.proofs.StoringLaws.{Storing}
 use Rattle.lists_places.specs.Places.{place_of}
@@ -6,6 +5,3 @@ use Rattle.lists_places.proofs.note_places.Given as goal
 
 abbrev pub invariant-loop-b : goal.invariant-loop-b
 invariant-loop-b l = Storing (place_of l.points) (length l.initial.places) l.initial.places l.places l.b
-
-abbrev pub decreases-loop-b : goal.decreases-loop-b
-decreases-loop-b l = length l.initial.places - l.b

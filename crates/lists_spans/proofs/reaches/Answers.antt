@@ -1,10 +1,7 @@
 -- The last of i points of a rising list is the greatest of them.
-use Prim.Native.Nat.{◌-◌}
-use Rattle.lists_marks.proofs.BelowLaws.{counted}
+use Rattle.std.proofs.Common.{arith}
+use Rattle.lists_marks.proofs.BelowLaws.{reaches_last}
 use Rattle.lists_spans.proofs.reaches.Goals as goal
 
-pub returns-then-i-gt0 : goal.returns-then-i-gt0
-returns-then-i-gt0 c = search counted
-
-pub returns : goal.returns
-returns c = search counted
+pub returns-else-i-eq0 : goal.returns-else-i-eq0
+returns-else-i-eq0 c = rw c.from.ensures (reaches_last _ _ _ c.requires.rising (omega arith) c.requires.i_in_bounds)

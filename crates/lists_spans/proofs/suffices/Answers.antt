@@ -1,9 +1,11 @@
 -- The first of the points behind i is the least of them.
-use Rattle.lists_marks.proofs.BelowLaws.{counted}
+use Rattle.std.proofs.Common.{◌∙◌}
+use borrow.Author.Tests.{le-leb}
+use Rattle.lists_marks.proofs.BelowLaws.{counted, suffices_end}
 use Rattle.lists_spans.proofs.suffices.Goals as goal
 
-pub returns-then-i-points : goal.returns-then-i-points
-returns-then-i-points c = search counted
+pub returns-then-points-i : goal.returns-then-points-i
+returns-then-points-i c = le-leb _ _ c.if-points-i.true ∙ suffices_end _ _ _ c.if-points-i.true
 
-pub returns : goal.returns
-returns c = search counted
+pub returns-else-points-i : goal.returns-else-points-i
+returns-else-points-i c = rw c.from.ensures (search counted)
