@@ -1,4 +1,5 @@
 -- A lookup in bytes that hold the columns of segments, their range offsets and their glyph array finds what the segments give.
+use Rattle.std.specs.Prelude.{Option, Some, None}
 use Prim.Native.Nat.{ℕ, suc, ◌+◌, ◌-◌, ◌*◌, ◌/◌, ◌%◌, ◌≤◌, ◌<◌}
 use mathlib.Core.Path.{◌≡◌, refl, ap, ◌∙◌}
 use mathlib.Core.List.{List, [], ◌∷◌}
@@ -17,21 +18,19 @@ use Rattle.format4_cutting.specs.declared.Segment.{Segment}
 use Rattle.format4_cutting.specs.Steps.{entries}
 use Rattle.format4_cutting.specs.Cutting.{entries_of}
 use Rattle.source.specs.Fields.{end_code, start_code, id_delta, id_range_offset, glyph_id_array, array_entries}
-use Rattle.heads_lookup.specs.declared.Found.{Found}
-use Rattle.heads_lookup.specs.declared.Found.TheVariants.{Nothing, Glyph}
 use Rattle.heads_lookup.specs.Lookup.{reaches, in_array, in_segment}
 use Rattle.format4.specs.Format4.{offsets_from}
 use Rattle.format4_lookup.specs.CutLookup.{value_in, lookup_in}
 use Rattle.format4_lookup.proofs.FitsLaws.{Low}
 use Rattle.format4_lookup.proofs.ColumnsAtLaws.{Held}
 
-entry_is : (v : ℕ) → v < 65536 → Glyph v ≡ if_eq v 0 (Glyph 0) (Glyph ((v + 0) % 65536))
+entry_is : (v : ℕ) → v < 65536 → Some v ≡ if_eq v 0 (Some 0) (Some ((v + 0) % 65536))
 unfolding if_eq
-entry_is v h = by_pick (λ (f : Found). Glyph v ≡ f) (eqb v 0) (Glyph 0) (Glyph ((v + 0) % 65536)) (λ e. ap Glyph (eqb-true v 0 e)) (λ _. ap Glyph (omega arith))
+entry_is v h = by_pick (λ (f : Option ℕ). Some v ≡ f) (eqb v 0) (Some 0) (Some ((v + 0) % 65536)) (λ e. ap Some (eqb-true v 0 e)) (λ _. ap Some (omega arith))
 
 module _ (xs : List ℕ) (s len : ℕ) (array : List ℕ) (low : Each Low array) (count : array_entries s len ≡ length array)
     (there : (k : ℕ) → glyph_id_array xs 0 s k ≡ get_or array k 0) (c : ℕ) where
-  in_array_lem : (k : ℕ) → k < length array → Glyph (get_or array k 0) ≡ in_array xs 0 s len (s + k) 0
+  in_array_lem : (k : ℕ) → k < length array → Some (get_or array k 0) ≡ in_array xs 0 s len (s + k) 0
   unfolding in_array
   in_array_lem k h =
       let e : s + k - s ≡ k = omega arith in
@@ -40,7 +39,7 @@ module _ (xs : List ℕ) (s len : ℕ) (array : List ℕ) (low : Each Low array)
 
   in_segment_lem : (x : Segment) (i before left : ℕ) → i + left ≡ s → 0 < left → before + entries_of x ≤ length array → c ≤ x.end
       → start_code xs 0 s i ≡ x.start → id_delta xs 0 s i ≡ x.delta → id_range_offset xs 0 s i ≡ pick (eqb x.delta 0) (2 * left + 2 * before) 0
-      → pick (leb x.start c) (Glyph (value_in (drop before array) x c)) Nothing ≡ in_segment xs 0 s len i c
+      → pick (leb x.start c) (Some (value_in (drop before array) x c)) None ≡ in_segment xs 0 s len i c
   unfolding in_segment
   in_segment_lem x i before left n m room h a b o =
       rw (a, b, o)
@@ -52,8 +51,8 @@ module _ (xs : List ℕ) (s len : ℕ) (array : List ℕ) (low : Each Low array)
       far = c - x.start
 
       go : x.start ≤ c → (t : Bool) → eqb x.delta 0 ≡ t → before + pick t (x.end + 1 - x.start) 0 ≤ length array
-          → Glyph (pick t (get_or (drop before array) far 0) ((c + x.delta) % 65536))
-          ≡ if_eq (pick t (2 * left + 2 * before) 0) 0 (Glyph ((c + x.delta) % 65536)) (in_array xs 0 s len (pick t (2 * left + 2 * before) 0 / 2 + far + i) x.delta)
+          → Some (pick t (get_or (drop before array) far 0) ((c + x.delta) % 65536))
+          ≡ if_eq (pick t (2 * left + 2 * before) 0) 0 (Some ((c + x.delta) % 65536)) (in_array xs 0 s len (pick t (2 * left + 2 * before) 0 / 2 + far + i) x.delta)
       go k true e r =
           let place : (2 * left + 2 * before) / 2 + far + i ≡ s + (before + far) = omega arith in
           else_eq (2 * left + 2 * before) 0 _ _ (λ z. omega arith)
@@ -62,8 +61,8 @@ module _ (xs : List ℕ) (s len : ℕ) (array : List ℕ) (low : Each Low array)
 
   -- the segments from number i on
   pub columns_find : (ss : List Segment) (i before : ℕ) → i + length ss ≡ s → before + entries ss ≤ length array → Held xs s i before ss
-      → lookup_in Nothing Glyph (drop before array) ss c
-      ≡ if_lt (first (reaches (end_code xs 0) c) (length ss) i) s (in_segment xs 0 s len (first (reaches (end_code xs 0) c) (length ss) i) c) Nothing
+      → lookup_in None Some (drop before array) ss c
+      ≡ if_lt (first (reaches (end_code xs 0) c) (length ss) i) s (in_segment xs 0 s len (first (reaches (end_code xs 0) c) (length ss) i) c) None
   unfolding lookup_in first offsets_from
   columns_find [] i before n room h = else_lt i s _ _ (omega arith) refl
   columns_find (x ∷ ss) i before n room h =
@@ -72,4 +71,4 @@ module _ (xs : List ℕ) (s len : ℕ) (array : List ℕ) (low : Each Low array)
       rw (h.ends.0, next)
       (by_leb _ c x.end
       (λ k. rw (le-leb c x.end k) (if_lt_lem i s _ _ (omega arith) (in_segment_lem x i before (suc (length ss)) n (omega arith) (omega arith) k h.starts.0 h.deltas.0 h.offsets.0)))
-      (λ k. rw (lt-leb c x.end k) (ap (λ (l : List ℕ). lookup_in Nothing Glyph l ss c) (drop-drop (entries_of x) before array) ∙ rest)))
+      (λ k. rw (lt-leb c x.end k) (ap (λ (l : List ℕ). lookup_in None Some l ss c) (drop-drop (entries_of x) before array) ∙ rest)))

@@ -1,4 +1,5 @@
 -- A lookup in a written format 4 subtable gives the listed glyph of every listed code point, and nothing at any other but glyph 0 at 0xFFFF.
+use Rattle.std.specs.Prelude.{Some, None}
 use Prim.Native.Nat.{ℕ, ◌+◌, ◌≤◌, ◌<◌}
 use mathlib.Core.Path.{◌≡◌, refl, sym, ap, ◌∙◌}
 use mathlib.Core.List.{List, ◌++◌}
@@ -19,7 +20,6 @@ use Rattle.format4_cutting.specs.Cutting.{segments, glyph_array}
 use Rattle.format4_cutting.proofs.CuttingLaws.{length_array}
 use Rattle.source.proofs.KindLaws.{length_of}
 use Rattle.source.specs.Fields.{array_entries, glyph_id_array}
-use Rattle.heads_lookup.specs.declared.Found.TheVariants.{Nothing, Glyph}
 use Rattle.heads_lookup.specs.Lookup.{find4, lookup4, glyph_of}
 use Rattle.heads_lookup.proofs.StandsLaws.{lookup4_stands}
 use Rattle.format4.specs.Format4.{format4}
@@ -49,15 +49,15 @@ module _ (language : ℕ) (ps : List Pair) (l : Listed16 ps) (w : FieldsFit lang
       let count : array_entries S (length T) ≡ length (glyph_array ps) = omega arith in
       let there : (k : ℕ) → glyph_id_array T 0 S k ≡ get_or (glyph_array ps) k 0 = rw (format4-numbers language ps) (entries_at language (segments ps) (glyph_array ps) low) in
       let held : Held T S 0 0 (segments ps) = rw (format4-numbers language ps) (columns_held language (segments ps) (glyph_array ps) (segments_fit ps l.fits) (omega arith)) in
-      else_lt 0xFFFF c Nothing _ (omega arith)
-      (sym (segments_find Nothing Glyph c h ps l) ∙ columns_find T S (length T) (glyph_array ps) low count there c (segments ps) 0 0 (omega arith) (omega arith) held)
+      else_lt 0xFFFF c None _ (omega arith)
+      (sym (segments_find None Some c h ps l) ∙ columns_find T S (length T) (glyph_array ps) low count there c (segments ps) 0 0 (omega arith) (omega arith) held)
 
   -- code points above 0xFFFF are not listed
   find_high : (c : ℕ) → 65535 < c → found_in ps c ≡ find4 T 0 S (length T) c
   unfolding find4
   find_high c h =
       let others = each_of Fits16 (λ (p : Pair). p.0 ≡ c → ⊥) (λ p f e. let b = f.0 in omega arith) ps l.fits in
-      if_lt_lem 0xFFFF c Nothing _ h (rw (listed_none (unlisted Nothing Glyph c) Glyph ps c others, ne_eqb c 65535 (λ e. omega arith)))
+      if_lt_lem 0xFFFF c None _ h (rw (listed_none (unlisted None Some c) Some ps c others, ne_eqb c 65535 (λ e. omega arith)))
 
   -- ---- by itself
 
@@ -66,9 +66,9 @@ module _ (language : ℕ) (ps : List Pair) (l : Listed16 ps) (w : FieldsFit lang
   format4_gives c = rw (format4_kind language ps w) (sym (by_leb (found_in ps c ≡ find4 T 0 S (length T) c) c 65535 (λ h. find_low c (omega arith)) (find_high c)))
 
   found_glyph : (c : ℕ) → glyph_of (found_in ps c) ≡ listed_glyph ps c
-  found_glyph c = listed_ap glyph_of (unlisted Nothing Glyph c) Glyph ps c ∙ rw (zero_there (eqb c 65535))
+  found_glyph c = listed_ap glyph_of (unlisted None Some c) Some ps c ∙ rw (zero_there (eqb c 65535))
     where
-      zero_there : (t : Bool) → glyph_of (pick t (Glyph 0) Nothing) ≡ 0
+      zero_there : (t : Bool) → glyph_of (pick t (Some 0) None) ≡ 0
       zero_there true = refl
       zero_there false = refl
 
@@ -95,12 +95,12 @@ module _ (language : ℕ) (ps : List Pair) (l : Listed16 ps) (w : FieldsFit lang
 -- ---- two columns as pairs: what is found, one by one
 
 module _ (language : ℕ) (cs gs : List ℕ) (l : Listed16 (pairs cs gs)) (w : FieldsFit language (pairs cs gs)) where
-  pub gives_glyph : (k : ℕ) → Rising cs → length cs ≡ length gs → k < length cs → lookup4 (format4 language (pairs cs gs)) 0 (get_or cs k 0) ≡ Glyph (get_or gs k 0)
-  gives_glyph k r e h = format4_gives language (pairs cs gs) l w (get_or cs k 0) ∙ listed_nth (unlisted Nothing Glyph (get_or cs k 0)) Glyph cs gs k r e h
+  pub gives_glyph : (k : ℕ) → Rising cs → length cs ≡ length gs → k < length cs → lookup4 (format4 language (pairs cs gs)) 0 (get_or cs k 0) ≡ Some (get_or gs k 0)
+  gives_glyph k r e h = format4_gives language (pairs cs gs) l w (get_or cs k 0) ∙ listed_nth (unlisted None Some (get_or cs k 0)) Some cs gs k r e h
 
   module _ (c : ℕ) (absent : (k : ℕ) → k < length cs → get_or cs k 0 ≡ c → ⊥) where
-    pub gives_zero : c ≡ 0xFFFF → lookup4 (format4 language (pairs cs gs)) 0 c ≡ Glyph 0
-    gives_zero e = format4_gives language (pairs cs gs) l w c ∙ listed_absent (unlisted Nothing Glyph c) Glyph cs gs c absent ∙ rw e
+    pub gives_zero : c ≡ 0xFFFF → lookup4 (format4 language (pairs cs gs)) 0 c ≡ Some 0
+    gives_zero e = format4_gives language (pairs cs gs) l w c ∙ listed_absent (unlisted None Some c) Some cs gs c absent ∙ rw e
 
-    pub gives_nothing : (c ≡ 0xFFFF → ⊥) → lookup4 (format4 language (pairs cs gs)) 0 c ≡ Nothing
-    gives_nothing n = format4_gives language (pairs cs gs) l w c ∙ listed_absent (unlisted Nothing Glyph c) Glyph cs gs c absent ∙ rw (ne_eqb c 0xFFFF n)
+    pub gives_nothing : (c ≡ 0xFFFF → ⊥) → lookup4 (format4 language (pairs cs gs)) 0 c ≡ None
+    gives_nothing n = format4_gives language (pairs cs gs) l w c ∙ listed_absent (unlisted None Some c) Some cs gs c absent ∙ rw (ne_eqb c 0xFFFF n)

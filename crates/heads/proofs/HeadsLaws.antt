@@ -1,4 +1,5 @@
 -- A head's answer by the header h that was read, as rules whose premises stand among a need's facts; and what a head gives of a table.
+use Rattle.std.specs.Prelude.{Option, Some, None, Result, Ok, Err}
 use Prim.Native.Nat.{ℕ, ◌+◌, ◌*◌, ◌<◌, ◌≤◌}
 use mathlib.Core.Path.{◌≡◌, refl, sym, ◌∙◌}
 use mathlib.Core.List.{List}
@@ -10,31 +11,29 @@ use lib.Dec.{ltb}
 use Rattle.laws.specs.Choice.{if_lt}
 use Rattle.laws.proofs.ChoiceLaws.{by_pick, if_lt_lem, else_lt}
 use Rattle.laws.proofs.FirstLaws.{first_is, first_past}
-use Rattle.source_header.specs.declared.Header.{Header}
-use Rattle.source_header.specs.declared.Header.TheVariants.{Records, Refused as Rejected}
 use Rattle.source_header.specs.Header.{refused5, record_count, header_of, offset_of}
 use Rattle.source_header.proofs.HeaderLaws.{Accepted, not_refused, tells_records, tells_refused}
 use Rattle.source_records.specs.Records.{leads_to_format}
 use Rattle.heads_lookup.specs.Lookup.{lookup4, lookup12, glyph_of}
-use Rattle.heads.specs.declared.Printed.{Printed}
-use Rattle.heads.specs.declared.Printed.TheVariants.{Glyph, Refused}
+use Rattle.heads.specs.declared.HeadRefusal.{HeadRefusal}
+use Rattle.heads.specs.declared.HeadRefusal.TheVariants.{BadHeader, NothingReadable}
 use Rattle.heads.specs.Heads.{old_of, new_of, by_records, old_head, new_head, head_number_of}
 
 -- ---- by the header
 
 module _ (xs : List ℕ) where
-  pub by_accepted : {n : ℕ} (answer : ℕ → Printed) → Accepted xs n → by_records xs answer ≡ answer n
+  pub by_accepted : {n : ℕ} (answer : ℕ → Result ℕ HeadRefusal) → Accepted xs n → by_records xs answer ≡ answer n
   unfolding by_records
   by_accepted answer a = rw (not_refused xs a, ← a.count)
 
-  module _ (h : Header) where
-    pub records_fit : (n : ℕ) → h ≡ header_of xs → h ≡ Records n → 4 + 8 * n ≤ length xs
+  module _ (h : Option ℕ) where
+    pub records_fit : (n : ℕ) → h ≡ header_of xs → h ≡ Some n → 4 + 8 * n ≤ length xs
     records_fit n q e = (tells_records xs (sym q ∙ e)).fits
 
-    pub head_accepted : (answer : ℕ → Printed) (n : ℕ) (r : Printed) → h ≡ header_of xs → h ≡ Records n → r ≡ answer n → r ≡ by_records xs answer
+    pub head_accepted : (answer : ℕ → Result ℕ HeadRefusal) (n : ℕ) (r : Result ℕ HeadRefusal) → h ≡ header_of xs → h ≡ Some n → r ≡ answer n → r ≡ by_records xs answer
     head_accepted answer n r q e f = f ∙ sym (by_accepted answer (tells_records xs (sym q ∙ e)))
 
-    pub head_refused : (answer : ℕ → Printed) → h ≡ header_of xs → h ≡ Rejected → Refused 5 ≡ by_records xs answer
+    pub head_refused : (answer : ℕ → Result ℕ HeadRefusal) → h ≡ header_of xs → h ≡ None → Err BadHeader ≡ by_records xs answer
     unfolding by_records
     head_refused answer q e = rw (tells_refused xs (sym q ∙ e))
 
@@ -44,14 +43,14 @@ pub ruleset by_header = (head_accepted, head_refused)
 
 module _ (xs : List ℕ) (n : ℕ) (a : Accepted xs n) (c : ℕ) where
   pub old_first : (k : ℕ) → k < n → leads_to_format 4 xs k ≡ true → ((j : ℕ) → j < k → leads_to_format 4 xs j ≡ false)
-      → old_head xs c ≡ Glyph (glyph_of (lookup4 xs (offset_of xs k) c))
+      → old_head xs c ≡ Ok (glyph_of (lookup4 xs (offset_of xs k) c))
   unfolding old_of
   old_first k h e miss =
       let f = first_is (leads_to_format 4 xs) n k h e miss in
       by_accepted xs (old_of xs c) a ∙ rw f (sym (if_lt_lem k n _ _ h refl))
 
   pub new_first : (k : ℕ) → k < n → leads_to_format 12 xs k ≡ true → ((j : ℕ) → j < k → leads_to_format 12 xs j ≡ false)
-      → new_head xs c ≡ Glyph (glyph_of (lookup12 xs (offset_of xs k) c))
+      → new_head xs c ≡ Ok (glyph_of (lookup12 xs (offset_of xs k) c))
   unfolding new_of
   new_first k h e miss =
       let f = first_is (leads_to_format 12 xs) n k h e miss in
@@ -63,7 +62,7 @@ module _ (xs : List ℕ) (n : ℕ) (a : Accepted xs n) (c : ℕ) where
       let f = first_past (leads_to_format 12 xs) n miss in
       by_accepted xs (new_of xs c) a ∙ rw f (sym (else_lt n n _ _ (omega arith) refl)) ∙ sym (by_accepted xs (old_of xs c) a)
 
-  pub old_none : ((j : ℕ) → j < n → leads_to_format 4 xs j ≡ false) → old_head xs c ≡ Refused 11
+  pub old_none : ((j : ℕ) → j < n → leads_to_format 4 xs j ≡ false) → old_head xs c ≡ Err NothingReadable
   unfolding old_of
   old_none miss =
       let f = first_past (leads_to_format 4 xs) n miss in
@@ -71,10 +70,10 @@ module _ (xs : List ℕ) (n : ℕ) (a : Accepted xs n) (c : ℕ) where
 
 -- ---- a head's number is 0, 5 or 11
 
-pub record Told (r : Printed) : Type 0 where
+pub record Told (r : Result ℕ HeadRefusal) : Type 0 where
   pub number : (head_number_of r ≡ 0) ⊎ ((head_number_of r ≡ 5) ⊎ (head_number_of r ≡ 11))
 
-told_if : (a b : ℕ) (x y : Printed) → Told x → Told y → Told (if_lt a b x y)
+told_if : (a b : ℕ) (x y : Result ℕ HeadRefusal) → Told x → Told y → Told (if_lt a b x y)
 unfolding if_lt
 told_if a b x y p q = by_pick Told (ltb a b) x y (λ e. p) (λ e. q)
 
@@ -87,10 +86,10 @@ module _ (xs : List ℕ) (c : ℕ) where
   unfolding new_of
   new_told n = told_if _ _ _ _ (record { number = inl refl }) (old_told n)
 
-  told_by_lem : (answer : ℕ → Printed) → ((n : ℕ) → Told (answer n)) → Told (by_records xs answer)
+  told_by_lem : (answer : ℕ → Result ℕ HeadRefusal) → ((n : ℕ) → Told (answer n)) → Told (by_records xs answer)
   unfolding by_records
   told_by_lem answer f =
-      by_pick Told (refused5 xs) (Refused 5) (answer (record_count xs)) (λ e. record { number = inr (inl refl) }) (λ e. f (record_count xs))
+      by_pick Told (refused5 xs) (Err BadHeader) (answer (record_count xs)) (λ e. record { number = inr (inl refl) }) (λ e. f (record_count xs))
 
   pub old_number : Told (old_head xs c)
   old_number = told_by_lem (old_of xs c) old_told

@@ -1,9 +1,9 @@
-// No functions: what each print head prints for a code point, by a table of any length.
+// What each print head prints for a code point, by a table of any length, and why it prints nothing. There are no functions here.
 #![tactic(auto)]
 
-// A glyph, or the number of a refusal: 5 or 11.
+// Refusals 5 and 11: a header that is none, and a table that holds nothing this head can read.
 #[derive(Clone, Copy)]
-pub enum Printed {
-    Glyph(u32),
-    Refused(u8),
+pub enum HeadRefusal {
+    BadHeader,
+    NothingReadable,
 }

@@ -8,30 +8,27 @@ ghost use Rattle.heads_lookup.specs.Lookup.{in_array, in_segment, reaches, find4
 ghost use Rattle.laws.specs.Search.{first};
 ghost use Rattle.source.specs.Fields.{end_code, end_char_code};
 
-use heads_lookup::Found;
-use source::Segments;
+use source::{Kind, Segments};
 
 // The array's answer at index `place - t.segs`.
-fn in_array(s: &[u8], t: Segments, place: usize, delta: u32) -> Found
+fn in_array(s: &[u8], t: Segments, place: usize, delta: u32) -> Option<u32>
     requires room4 { Room4 s.now t }
     requires delta_bound { delta < 65536 }
     ensures { result ≡ in_array s.now t.at t.segs t.len place delta }
 {
-    if place < t.segs {
-        return Found::Nothing;
+    let index = place.checked_sub(t.segs)?;
+    if (t.len - (16 + 8 * t.segs)) / 2 <= index {
+        return None;
     }
-    if place - t.segs < (t.len - (16 + 8 * t.segs)) / 2 {
-        let entry = number::u16_at(s, t.at + 16 + 8 * t.segs + 2 * (place - t.segs));
-        if entry == 0 {
-            return Found::Glyph(0);
-        }
-        return Found::Glyph((entry + delta) % 65536);
+    let entry = number::u16_at(s, t.at + 16 + 8 * t.segs + 2 * index);
+    if entry == 0 {
+        return Some(0);
     }
-    Found::Nothing
+    Some((entry + delta) % 65536)
 }
 
 // The answer of segment i.
-pub fn in_segment(s: &[u8], t: Segments, i: usize, c: u32) -> Found
+pub fn in_segment(s: &[u8], t: Segments, i: usize, c: u32) -> Option<u32>
     requires room4 { Room4 s.now t }
     requires i_lt_segs { (i < t.segs) × (c ≤ 65535) }
     ensures { result ≡ in_segment s.now t.at t.segs t.len i c }
@@ -40,10 +37,10 @@ pub fn in_segment(s: &[u8], t: Segments, i: usize, c: u32) -> Found
     let id_delta = number::u16_at(s, t.at + 16 + 4 * t.segs + 2 * i);
     let id_range_offset = number::u16_at(s, t.at + 16 + 6 * t.segs + 2 * i);
     if c < start_code {
-        return Found::Nothing;
+        return None;
     }
     if id_range_offset == 0 {
-        return Found::Glyph((c + id_delta) % 65536);
+        return Some((c + id_delta) % 65536);
     }
     in_array(
         s,
@@ -58,46 +55,33 @@ fn first_segment(s: &[u8], t: Segments, c: u32) -> usize
     requires { Room4 s.now t }
     ensures { result ≡ first (reaches (end_code s.now t.at) c) t.segs 0 }
 {
-    let mut i = 0;
-    while i < t.segs {
-        if c <= number::u16_at(s, t.at + 14 + 2 * i) {
-            return i;
-        }
-        i += 1;
-    }
-    i
+    laws::first(t.segs, |i| c <= number::u16_at(s, t.at + 14 + 2 * i))
 }
 
-fn find4_in(s: &[u8], t: Segments, c: u32) -> Found
+fn find4_in(s: &[u8], t: Segments, c: u32) -> Option<u32>
     requires { Room4 s.now t }
     ensures { result ≡ find4 s.now t.at t.segs t.len c }
 {
     if 0xFFFF < c {
-        return Found::Nothing;
+        return None;
     }
     let i = first_segment(s, t, c);
     if i < t.segs {
         return in_segment(s, t, i, c);
     }
-    Found::Nothing
+    None
 }
 
-// The first group whose end is at least c; `groups` where there is none.
+// The first group whose end is at least c; `groups` where there is none. What it shares with `first_segment` is the search; the end stands
+// elsewhere, in another width.
 fn first_group(s: &[u8], at: usize, groups: usize, c: u32) -> usize
     requires { Room12 s.now at groups }
     ensures { result ≡ first (reaches (end_char_code s.now at) c) groups 0 }
 {
-    let mut i = 0;
-    while i < groups {
-        if c <= number::u32_at(s, at + 20 + 12 * i) {
-            return i;
-        }
-        i += 1;
-    }
-    i
+    laws::first(groups, |i| c <= number::u32_at(s, at + 20 + 12 * i))
 }
 
-fn find12_in(s: &[u8], at: usize, groups: usize, c: u32) -> Found
+fn find12_in(s: &[u8], at: usize, groups: usize, c: u32) -> Option<u32>
     requires { Room12 s.now at groups }
     ensures { result ≡ find12 s.now at groups c }
 {
@@ -105,58 +89,37 @@ fn find12_in(s: &[u8], at: usize, groups: usize, c: u32) -> Found
     if i < groups {
         return heads_lookup::in_group(s, at, groups, i, c);
     }
-    Found::Nothing
+    None
 }
 
 // What the subtable at an offset gives for c, if it is a readable format 4.
-pub fn lookup4(s: &[u8], at: usize, c: u32) -> Found
+pub fn lookup4(s: &[u8], at: usize, c: u32) -> Option<u32>
     ensures { result ≡ lookup4 s.now at c }
 {
     match source::kind_at(s, at) {
-        source::Kind::Format4 {
-            language: _,
+        Kind::Format4 {
             segments,
             length,
-        } => {
-            let t = Segments {
+            ..
+        } => find4_in(
+            s,
+            Segments {
                 at,
                 segs: segments,
                 len: length,
-            };
-            find4_in(s, t, c)
-        }
-        source::Kind::Format12 {
-            language: _,
-            groups: _,
-            length: _,
-        } => Found::Nothing,
-        source::Kind::Format14 {
-            records: _,
-            length: _,
-        } => Found::Nothing,
-        source::Kind::Unreadable => Found::Nothing,
+            },
+            c,
+        ),
+        _ => None,
     }
 }
 
-// What the subtable at an offset gives for c, if it is a readable format 12.
-pub fn lookup12(s: &[u8], at: usize, c: u32) -> Found
+// What the subtable at an offset gives for c, if it is a readable format 12. One function for both formats would hand in the whole match.
+pub fn lookup12(s: &[u8], at: usize, c: u32) -> Option<u32>
     ensures { result ≡ lookup12 s.now at c }
 {
     match source::kind_at(s, at) {
-        source::Kind::Format4 {
-            language: _,
-            segments: _,
-            length: _,
-        } => Found::Nothing,
-        source::Kind::Format12 {
-            language: _,
-            groups,
-            length: _,
-        } => find12_in(s, at, groups, c),
-        source::Kind::Format14 {
-            records: _,
-            length: _,
-        } => Found::Nothing,
-        source::Kind::Unreadable => Found::Nothing,
+        Kind::Format12 { groups, .. } => find12_in(s, at, groups, c),
+        _ => None,
     }
 }

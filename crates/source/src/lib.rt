@@ -5,7 +5,8 @@ ghost use Rattle.std.specs.Prelude.{◌≡◌, ◌-◌, length};
 ghost use Rattle.number.specs.BigEndian.{be};
 ghost use Rattle.source.specs.Kind.{kind_at, format_of};
 
-// A subtable that can be read, with its language, count and length, or none.
+// A subtable that can be read, with its language, count and length, or none. `Unreadable` is a case beside the formats: in an Option round
+// them each match would have the same four arms, one level deeper.
 #[derive(Clone, Copy)]
 pub enum Kind {
     Format4 {
@@ -37,13 +38,11 @@ pub struct Segments {
 fn bytes_from(s: &[u8], at: usize) -> usize
     ensures { result ≡ length s.now - at }
 {
-    let n = s.len();
-    if n < at {
-        return 0;
-    }
-    n - at
+    s.len().saturating_sub(at)
 }
 
+// The formats have their fields at other places and in other widths, so each has a function; the two comparisons with the length are what they
+// share.
 fn format4_at(s: &[u8], at: usize) -> Kind
     requires { be 2 s.now at ≡ 4 }
     ensures { result ≡ kind_at s.now at }
@@ -56,16 +55,10 @@ fn format4_at(s: &[u8], at: usize) -> Kind
     let language = number::u16_at(s, at + 4);
     let twice = number::u16_at(s, at + 6) as usize;
     let segments = twice / 2;
-    if twice % 2 != 0 {
+    if twice % 2 != 0 || segments == 0 {
         return Kind::Unreadable;
     }
-    if segments < 1 {
-        return Kind::Unreadable;
-    }
-    if length < 16 + 8 * segments {
-        return Kind::Unreadable;
-    }
-    if room < length {
+    if length < 16 + 8 * segments || room < length {
         return Kind::Unreadable;
     }
     Kind::Format4 {
@@ -86,10 +79,7 @@ fn format12_at(s: &[u8], at: usize) -> Kind
     let length = number::u32_at(s, at + 4) as usize;
     let language = number::u32_at(s, at + 8);
     let groups = number::u32_at(s, at + 12) as usize;
-    if length < 16 + 12 * groups {
-        return Kind::Unreadable;
-    }
-    if room < length {
+    if length < 16 + 12 * groups || room < length {
         return Kind::Unreadable;
     }
     Kind::Format12 {
@@ -112,10 +102,7 @@ fn format14_at(s: &[u8], at: usize) -> Kind
     if number::limits::SELECTORS_MAX < records {
         return Kind::Unreadable;
     }
-    if length < 10 + 11 * records {
-        return Kind::Unreadable;
-    }
-    if room < length {
+    if length < 10 + 11 * records || room < length {
         return Kind::Unreadable;
     }
     Kind::Format14 { records, length }
@@ -140,20 +127,9 @@ pub fn format_of(kind: Kind) -> u32
     ensures { result ≡ format_of kind }
 {
     match kind {
-        Kind::Format4 {
-            language: _,
-            segments: _,
-            length: _,
-        } => 4,
-        Kind::Format12 {
-            language: _,
-            groups: _,
-            length: _,
-        } => 12,
-        Kind::Format14 {
-            records: _,
-            length: _,
-        } => 14,
+        Kind::Format4 { .. } => 4,
+        Kind::Format12 { .. } => 12,
+        Kind::Format14 { .. } => 14,
         Kind::Unreadable => 0,
     }
 }

@@ -1,13 +1,9 @@
 -- The source's header, refusal 5 and the records (docs/RULES.md, "Numbers of refusal" and "Records").
-use Rattle.std.specs.Prelude.{ℕ, ◌+◌, ◌*◌, List, Bool, not, length, ltb, eqb}
+use Rattle.std.specs.Prelude.{ℕ, ◌+◌, ◌*◌, List, Bool, Option, Some, None, not, length, ltb, eqb}
 use Rattle.laws.specs.Choice.{pick, either, if_lt}
 use Rattle.number.specs.BigEndian.{be}
 use Rattle.number.specs.Limits.{records_max}
-use Rattle.source_header.specs.declared.Header.{Header}
-use Rattle.source_header.specs.declared.Header.TheVariants.{Records, Refused}
 use Rattle.source_header.specs.declared.EncodingRecord.{EncodingRecord}
-use Rattle.source_header.specs.declared.Entry.{Entry}
-use Rattle.source_header.specs.declared.Entry.TheVariants.{Record, Missing}
 
 -- the header: version, count
 abbrev pub version : List ℕ → ℕ
@@ -23,8 +19,9 @@ refused5 xs =
     (either (not (eqb (version xs) 0))
     (either (ltb records_max (record_count xs)) (ltb (length xs) (4 + 8 * record_count xs))))
 
-unfoldable pub header_of : List ℕ → Header
-header_of xs = pick (refused5 xs) Refused (Records (record_count xs))
+-- how many records the header announces; none is refusal 5
+unfoldable pub header_of : List ℕ → Option ℕ
+header_of xs = pick (refused5 xs) None (Some (record_count xs))
 
 -- record k stands behind the header, 8 bytes each: platform, encoding, the subtable's offset from the table's start
 abbrev pub platform_of : List ℕ → ℕ → ℕ
@@ -39,6 +36,6 @@ offset_of xs k = be 4 xs (8 + 8 * k)
 abbrev pub record_of : List ℕ → ℕ → EncodingRecord
 record_of xs k = record { platform = platform_of xs k; encoding = encoding_of xs k; offset = offset_of xs k }
 
--- missing where its 8 bytes are not all there, whatever the count says
-unfoldable pub entry_at : List ℕ → ℕ → Entry
-entry_at xs k = if_lt (length xs) (12 + 8 * k) Missing (Record (record_of xs k))
+-- none where its 8 bytes are not all there, whatever the count says
+unfoldable pub entry_at : List ℕ → ℕ → Option EncodingRecord
+entry_at xs k = if_lt (length xs) (12 + 8 * k) None (Some (record_of xs k))

@@ -4,13 +4,6 @@
 ghost use Rattle.std.specs.Prelude.{◌≡◌, ◌+◌, ◌*◌, ◌≤◌, length};
 ghost use Rattle.source_header.specs.Header.{record_count, header_of, entry_at, offset_of};
 
-// How many records the header announces, or refusal 5.
-#[derive(Clone, Copy)]
-pub enum Header {
-    Records(usize),
-    Refused,
-}
-
 #[derive(Clone, Copy)]
 pub struct EncodingRecord {
     pub platform: u32,
@@ -18,31 +11,20 @@ pub struct EncodingRecord {
     pub offset: usize,
 }
 
-#[derive(Clone, Copy)]
-pub enum Entry {
-    Record(EncodingRecord),
-    Missing,
-}
-
-pub fn header_of(s: &[u8]) -> Header
+// How many records the header announces; none is refusal 5.
+pub fn header_of(s: &[u8]) -> Option<usize>
     ensures { result ≡ header_of s.now }
 {
     let n = s.len();
     if n < 4 {
-        return Header::Refused;
+        return None;
     }
     let version = number::u16_at(s, 0);
     let count = number::u16_at(s, 2) as usize;
-    if version != 0 {
-        return Header::Refused;
+    if version != 0 || number::limits::RECORDS_MAX < count || n < 4 + 8 * count {
+        return None;
     }
-    if number::limits::RECORDS_MAX < count {
-        return Header::Refused;
-    }
-    if n < 4 + 8 * count {
-        return Header::Refused;
-    }
-    Header::Records(count)
+    Some(count)
 }
 
 pub fn record_count(s: &[u8]) -> usize
@@ -60,17 +42,15 @@ pub fn offset_of(s: &[u8], k: usize) -> usize
     number::u32_at(s, 8 + 8 * k) as usize
 }
 
-pub fn record_at(s: &[u8], k: usize) -> Entry
+// Record k; none where its bytes are not all there, whatever the count says.
+pub fn record_at(s: &[u8], k: usize) -> Option<EncodingRecord>
     ensures { result ≡ entry_at s.now k }
 {
     let n = s.len();
-    if n < 12 {
-        return Entry::Missing;
+    if n < 12 || (n - 12) / 8 < k {
+        return None;
     }
-    if (n - 12) / 8 < k {
-        return Entry::Missing;
-    }
-    Entry::Record(EncodingRecord {
+    Some(EncodingRecord {
         platform: number::u16_at(s, 4 + 8 * k),
         encoding: number::u16_at(s, 6 + 8 * k),
         offset: offset_of(s, k),

@@ -5,8 +5,6 @@ use Rattle.laws.specs.Search.{some}
 use Rattle.source.specs.declared.Kind.{Kind}
 use Rattle.source_header.specs.Header.{record_count, platform_of, encoding_of, offset_of}
 use Rattle.source.specs.Kind.{kind_at, format_of}
-use Rattle.source_records.specs.declared.Wanted.{Wanted}
-use Rattle.source_records.specs.declared.Wanted.TheVariants.{Format12, Bmp, Full}
 
 -- what record k leads to
 unfoldable pub leads_to : List ℕ → ℕ → Kind
@@ -43,12 +41,6 @@ abbrev pub refused7 : List ℕ → Bool
 refused7 xs = both (some_retained (leads_to_format 12) xs) (not (some_retained full_pair xs))
 
 -- ---- what the functions ask for
-
--- the tests of 6 and 7 by the code's names
-abbrev pub is_wanted : Wanted → List ℕ → ℕ → Bool
-is_wanted Format12 = leads_to_format 12
-is_wanted Bmp = bmp_pair
-is_wanted Full = full_pair
 
 -- record k is all there
 pub record Placed (xs : List ℕ) (k : ℕ) : Type 0 where

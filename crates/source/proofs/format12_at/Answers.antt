@@ -1,4 +1,4 @@
--- Each test that fails refutes the facts of a readable subtable; where none does they all hold.
+-- Each test that holds refutes the facts of a readable subtable; where none does they all hold.
 use Rattle.source.proofs.KindLaws.{unreadable, gives12}
 use native.Mathlib.Omega.{arith}
 use Rattle.source.proofs.format12_at.Goals as goal
@@ -8,9 +8,6 @@ returns-then-room-lt16 c = unreadable _ _ (λ g. omega arith) (λ g. omega arith
 
 pub returns-then-length-groups : goal.returns-then-length-groups
 returns-then-length-groups c = unreadable _ _ (λ g. omega arith) (λ g. omega arith) (λ g. omega arith)
-
-pub returns-then-room-length : goal.returns-then-room-length
-returns-then-room-length c = unreadable _ _ (λ g. omega arith) (λ g. omega arith) (λ g. omega arith)
 
 pub returns : goal.returns
 returns c = gives12 _ _ (omega arith)

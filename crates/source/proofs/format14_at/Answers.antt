@@ -1,4 +1,4 @@
--- Each test that fails refutes the facts of a readable subtable; where none does they all hold.
+-- Each test that holds refutes the facts of a readable subtable; where none does they all hold.
 use Rattle.source.proofs.KindLaws.{unreadable, gives14}
 use native.Mathlib.Omega.{arith}
 use Rattle.source.proofs.format14_at.Goals as goal
@@ -11,9 +11,6 @@ returns-then-records-gt-SELECTORS_MAX c = unreadable _ _ (λ g. omega arith) (λ
 
 pub returns-then-length-records : goal.returns-then-length-records
 returns-then-length-records c = unreadable _ _ (λ g. omega arith) (λ g. omega arith) (λ g. omega arith)
-
-pub returns-then-room-length : goal.returns-then-room-length
-returns-then-room-length c = unreadable _ _ (λ g. omega arith) (λ g. omega arith) (λ g. omega arith)
 
 pub returns : goal.returns
 returns c = gives14 _ _ (omega arith)

@@ -1,4 +1,4 @@
--- Each test that fails refutes the facts of a readable subtable; where none does they all hold.
+-- Each test that holds refutes the facts of a readable subtable; where none does they all hold.
 use Rattle.source.proofs.KindLaws.{unreadable, gives4}
 use native.Mathlib.Omega.{arith}
 use Rattle.source.proofs.format4_at.Goals as goal
@@ -9,14 +9,8 @@ returns-then-room-lt16 c = unreadable _ _ (λ g. omega arith) (λ g. omega arith
 pub returns-then-twice-ne0 : goal.returns-then-twice-ne0
 returns-then-twice-ne0 c = unreadable _ _ (λ g. omega arith) (λ g. omega arith) (λ g. omega arith)
 
-pub returns-then-segments-lt1 : goal.returns-then-segments-lt1
-returns-then-segments-lt1 c = unreadable _ _ (λ g. omega arith) (λ g. omega arith) (λ g. omega arith)
-
 pub returns-then-length-segments : goal.returns-then-length-segments
 returns-then-length-segments c = unreadable _ _ (λ g. omega arith) (λ g. omega arith) (λ g. omega arith)
-
-pub returns-then-room-length : goal.returns-then-room-length
-returns-then-room-length c = unreadable _ _ (λ g. omega arith) (λ g. omega arith) (λ g. omega arith)
 
 pub returns : goal.returns
 returns c = gives4 _ _ (omega arith)

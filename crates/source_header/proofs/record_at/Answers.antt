@@ -11,9 +11,5 @@ pub returns-then-n-lt12 : goal.returns-then-n-lt12
 unfolding entry_at
 returns-then-n-lt12 c = if_lt_lem _ _ _ _ (omega arith) refl
 
-pub returns-then-n-k : goal.returns-then-n-k
-unfolding entry_at
-returns-then-n-k c = if_lt_lem _ _ _ _ (omega arith) refl
-
 pub returns : goal.returns
 returns c = gives_record _ _ _ _ _ (omega arith) (search rules) (search rules) (search rules)

@@ -1,11 +1,12 @@
-use Rattle.source_records.specs.Records.{full_pair}
+use Rattle.std.proofs.Common.{arith}
 use Rattle.laws.proofs.ChoiceLaws.{one_of_lem}
+use Rattle.source_records.specs.Records.{full_pair}
 use Rattle.source_retained.proofs.is_full.Goals as goal
 
 pub returns-then-is_pair : goal.returns-then-is_pair
 unfolding full_pair
-returns-then-is_pair c = search one_of_lem
+returns-then-is_pair c = grind (arith, one_of_lem)
 
-pub returns : goal.returns
+pub returns-else-is_pair : goal.returns-else-is_pair
 unfolding full_pair
-returns c = search one_of_lem
+returns-else-is_pair c = grind (arith, one_of_lem)

@@ -1,8 +1,16 @@
-use Rattle.source_retained.proofs.WantedLaws.{unless}
+use mathlib.Core.Path.{◌≡◌}
+use borrow.Author.Rules.{rules}
+use Rattle.source_records.specs.Records.{leads_to_format, bmp_pair, some_retained}
+use Rattle.source_retained.proofs.WantedLaws.{retained_some}
 use Rattle.source_retained.proofs.lacks_bmp.Goals as goal
 
-pub returns-then-some_retained : goal.returns-then-some_retained
-returns-then-some_retained c = search unless
+pub returns-then-not-some_retained : goal.returns-then-not-some_retained
+returns-then-not-some_retained c =
+    let a : c.some_retained.result ≡ some_retained (leads_to_format 12) c.args.s.now = retained_some (leads_to_format 12) _ _ _ c.requires (c.some_retained.ensures _ (λ i b h e. search rules)) in
+    let b : c.some_retained-then-not-some_retained.result ≡ some_retained bmp_pair c.args.s.now = retained_some bmp_pair _ _ _ c.requires (c.some_retained-then-not-some_retained.ensures _ (λ i b h e. search rules)) in
+    rw (← a, ← b, c.if-not-some_retained.true)
 
-pub returns : goal.returns
-returns c = search unless
+pub returns-else-not-some_retained : goal.returns-else-not-some_retained
+returns-else-not-some_retained c =
+    let a : c.some_retained.result ≡ some_retained (leads_to_format 12) c.args.s.now = retained_some (leads_to_format 12) _ _ _ c.requires (c.some_retained.ensures _ (λ i b h e. search rules)) in
+    rw (← a, c.if-not-some_retained.false)

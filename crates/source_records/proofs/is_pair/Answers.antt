@@ -1,5 +1,0 @@
-use Rattle.source_records.proofs.RecordsLaws.{by_record}
-use Rattle.source_records.proofs.is_pair.Goals as goal
-
-pub returns : goal.returns
-returns c = search by_record

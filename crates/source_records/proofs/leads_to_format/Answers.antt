@@ -1,5 +1,0 @@
-use Rattle.source_records.proofs.RecordsLaws.{by_record}
-use Rattle.source_records.proofs.leads_to_format.Goals as goal
-
-pub returns : goal.returns
-returns c = search by_record
