@@ -24,8 +24,9 @@ fn count_groups(codes: &[u32], glyphs: &[u16]) -> usize
     requires { Columns codes.now glyphs.now }
     ensures { result ≡ length (groups (pairs codes.now glyphs.now)) }
 {
-    let mut n: usize = 0;
-    let mut i: usize = 0;
+    let mut n = 0;
+    let mut i = 0;
+    // A `for` cannot jump: a run is passed over at once.
     while i < codes.len() {
         i = lists_runs::run_end(codes, glyphs, i);
         n += 1;
@@ -40,7 +41,7 @@ pub fn format12_size(codes: &[u32], glyphs: &[u16]) -> Size12
 {
     let groups = count_groups(codes, glyphs);
     Size12 {
-        groups: groups,
+        groups,
         bytes: 16 + 12 * groups,
     }
 }

@@ -84,16 +84,6 @@ set_past (x ∷ xs) (suc i) a h = ap (λ (l : List ℕ). x ∷ l) (set_past xs i
 
 -- what is noted for b₀ becomes the greater of what it was and n
 module _ (full : List ℕ) (b₀ n : ℕ) where
-  pub noted_more : get_or full b₀ 0 < n → set full b₀ n ≡ set full b₀ (max (get_or full b₀ 0) n)
-  noted_more h =
-      let e : max (get_or full b₀ 0) n ≡ n = omega arith in
-      rw e
-
-  pub noted_same : n ≤ get_or full b₀ 0 → full ≡ set full b₀ (max (get_or full b₀ 0) n)
-  noted_same h =
-      let e : max (get_or full b₀ 0) n ≡ get_or full b₀ 0 = omega arith in
-      rw e (sym (set-get_or full b₀ 0))
-
   noted_at : (b k : ℕ) → k < get_or (set full b₀ (max (get_or full b₀ 0) n)) b 0 * 256 → (k < get_or full b 0 * 256) ⊎ ((b ≡ b₀) × (k < n * 256))
   noted_at b k h =
       by_test ((k < get_or full b 0 * 256) ⊎ ((b ≡ b₀) × (k < n * 256))) (eqb b b₀)
@@ -121,7 +111,5 @@ full_noted full fs fs' full' low high f l e d = record { ones = λ b. record { e
         let r = o.1 in
         rw e (fill_in (high - low) low fs k (omega arith) (omega arith) (omega arith)))
         (noted_at full b₀ (high / 256) b k (rw d at h))
-
-pub ruleset noting = (noted_more, noted_same)
 
 pub ruleset blocks = (full_set, full_noted)

@@ -26,7 +26,7 @@ fn put_group(out: &mut [u8], at: usize, group: Group)
 {
     number_writer::put_u32(out, at, group.start);
     number_writer::put_u32(out, at + 4, group.end);
-    number_writer::put_u32(out, at + 8, group.glyph as u32);
+    number_writer::put_u32(out, at + 8, u32::from(group.glyph));
 }
 
 // Writes the groups that the pairs make.
@@ -36,21 +36,14 @@ fn write_groups(out: &mut [u8], at: usize, codes: &[u32], glyphs: &[u16])
     ensures { out.new ≡ sets out.old at (encs 4 (fields (groups (pairs codes.now glyphs.now)))) }
 {
     let mut to = at;
-    let mut i: usize = 0;
+    let mut i = 0;
+    // A `for` cannot jump: a run is passed over at once.
     while i < codes.len() {
         let start = codes[i];
         let glyph = glyphs[i];
         i = lists_runs::run_end(codes, glyphs, i);
         let end = codes[i - 1];
-        put_group(
-            out,
-            to,
-            Group {
-                start: start,
-                end: end,
-                glyph: glyph,
-            },
-        );
+        put_group(out, to, Group { start, end, glyph });
         to += 12;
     }
 }

@@ -15,7 +15,7 @@ pub struct RangeCounter {
     pub glyphs: usize,
 }
 
-// What becomes of a format 4 subtable; one that fits comes with the counts that its writer needs.
+// What becomes of a format 4 subtable, which is one of three; one that fits comes with the counts that its writer needs.
 #[derive(Clone, Copy)]
 pub enum Size4 {
     Empty,
@@ -27,10 +27,7 @@ pub enum Size4 {
 pub fn points_of(x: Segment) -> usize
     ensures { (result ≡ points x) × (result ≤ 65536) }
 {
-    if x.start <= x.end {
-        return x.end as usize - x.start as usize + 1;
-    }
-    0
+    (x.end as usize + 1).saturating_sub(x.start as usize)
 }
 
 // How many entries of the glyph array it has.
@@ -44,6 +41,7 @@ pub fn entries_of(x: Segment) -> usize
 }
 
 impl RangeCounter {
+    // The rules ask for this constructor by its name, where a derive would do.
     pub fn new() -> Self
         ensures { result ≡ counter 0 0 }
     {

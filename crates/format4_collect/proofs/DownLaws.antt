@@ -5,21 +5,21 @@ use mathlib.Core.List.{List}
 use mathlib.Core.Bool.{Bool, true, false}
 use mathlib.Core.Logic.{inl, inr}
 use native.Mathlib.Omega.{arith}
-use lib.Dec.{eqb}
-use lib.ListN.{length, get_or, set, replicate, length-set, length-replicate, get_or-replicate}
-use lib.Seq.{sets, length-sets, get_or-set_same, get_or-set_other, ext_get_or}
-use borrow.Author.Tests.{eqb-true, eqb-false}
+use lib.ListN.{length, get_or, replicate, length-replicate, get_or-replicate}
+use lib.Seq.{sets, length-sets, ext_get_or}
 use Rattle.laws.specs.Choice.{pick}
 use Rattle.laws.specs.Search.{first}
-use Rattle.laws.proofs.ChoiceLaws.{by_test, by_leb}
+use Rattle.laws.proofs.ChoiceLaws.{by_leb}
 use Rattle.laws.proofs.SetsLaws.{get_or-sets_in, get_or-sets_other}
 use Rattle.lists_marks.specs.Marks.{flag_of, flagged, Flags, Cleared}
 use Rattle.lists_marks.proofs.MarksLaws.{length-flagged, flag_at}
-use Rattle.format4_mapped.specs.declared.SourceSegment.{SourceSegment}
-use Rattle.format4_mapped.specs.Mapped4.{Read4, stops4, holds4, says4, last_says, among4, maps4}
+use Rattle.format4_mapped.specs.Mapped4.{last_says, maps4}
+use Rattle.format4_segments.specs.declared.Format4.{Format4}
+use Rattle.format4_segments.specs.declared.Segment4.{Segment4}
+use Rattle.format4_segments.specs.Asked.{IsSegment, stops_at, holds_of, says_of, among_of, maps_of}
 use Rattle.format4_collect.specs.Downward.{word, decided, NotedBlocks, DecidedBy}
 use Rattle.format4_collect.specs.Walks.{Told, Telling, Settled}
-use Rattle.format4_mapped.proofs.Mapped4Laws.{among_on}
+use Rattle.format4_segments.proofs.SegmentLaws.{among_on}
 use Rattle.format4_collect.proofs.DownwardLaws.{decided-word, word_flag}
 
 told_on : (w l l' p v : Bool) (f f' : ℕ) → Told w l f → f' ≡ pick p (decided v f) f → pick p v l' ≡ l → Told w l' f'
@@ -46,14 +46,14 @@ cleared_at n fs k c l h =
     let z : 0 + k ≡ k = omega arith in
     ap (λ (x : List ℕ). get_or x k 0) c.is ∙ rw z at (get_or-sets_in fs 0 (replicate n 0) k (rw m h) (rw m (omega arith))) ∙ get_or-replicate n k 0 0 h
 
-module _ (xs : List ℕ) (at s len : ℕ) where
+module _ (f : Format4) where
   -- the segments from i on are walked
-  pub record Downing (noted ps fs₀ fs : List ℕ) (i : ℕ) : Type 0 where
-    pub within : i ≤ s
-    pub telling : Telling (maps4 xs at s len) (among4 xs at s len i) ps fs₀ fs
+  pub record Downing (noted : List Bool) (ps fs₀ fs : List ℕ) (i : ℕ) : Type 0 where
+    pub within : i ≤ f.place.segs
+    pub telling : Telling (maps_of f) (among_of f i) ps fs₀ fs
     pub notes : NotedBlocks noted fs
 
-  pub downing_start : (noted ps fs₀ : List ℕ) (i : ℕ) → (i ≡ first (stops4 xs at s) s 0) × (i ≤ s) → Cleared (length ps) fs₀ → Flags ps fs₀ → NotedBlocks noted fs₀
+  pub downing_start : (noted : List Bool) (ps fs₀ : List ℕ) (i : ℕ) → (i ≡ first (stops_at f) f.place.segs 0) × (i ≤ f.place.segs) → Cleared (length ps) fs₀ → Flags ps fs₀ → NotedBlocks noted fs₀
       → Downing noted ps fs₀ fs₀ i
   unfolding maps4
   downing_start noted ps fs₀ i e c k n =
@@ -63,68 +63,44 @@ module _ (xs : List ℕ) (at s len : ℕ) where
         notes = n;
       }
 
-  pub downing_on : (noted noted' ps fs₀ fs fs' : List ℕ) (i : ℕ) (g : SourceSegment) → Downing noted ps fs₀ fs i → 0 < i → Read4 xs at s (i - 1) g
-      → DecidedBy (holds4 g) (says4 xs at s len (i - 1) g) ps fs fs' → NotedBlocks noted' fs' → Downing noted' ps fs₀ fs' (i - 1)
+  pub downing_on : (noted noted' : List Bool) (ps fs₀ fs fs' : List ℕ) (i : ℕ) (g : Segment4) → Downing noted ps fs₀ fs i → 0 < i → IsSegment f (i - 1) g
+      → DecidedBy (holds_of g) (says_of g) ps fs fs' → NotedBlocks noted' fs' → Downing noted' ps fs₀ fs' (i - 1)
   downing_on noted noted' ps fs₀ fs fs' i g d h r b n =
       let m : i - 1 + 1 ≡ i = omega arith in
       record {
         within = omega (arith, d.within);
-        telling = telling_on (maps4 xs at s len) (among4 xs at s len i) (among4 xs at s len (i - 1)) (holds4 g) (says4 xs at s len (i - 1) g) ps fs₀ fs fs' d.telling b
-            (λ c. rw m at (among_on xs at s len (i - 1) c g r));
+        telling = telling_on (maps_of f) (among_of f i) (among_of f (i - 1)) (holds_of g) (says_of g) ps fs₀ fs fs' d.telling b
+            (λ c. rw m at (among_on f (i - 1) g r c));
         notes = n;
       }
 
-  pub downing_end : (noted ps fs₀ fs : List ℕ) (i : ℕ) → Downing noted ps fs₀ fs i → i ≤ 0 → Telling (maps4 xs at s len) (among4 xs at s len 0) ps fs₀ fs
+  pub downing_end : (noted : List Bool) (ps fs₀ fs : List ℕ) (i : ℕ) → Downing noted ps fs₀ fs i → i ≤ 0 → Telling (maps_of f) (among_of f 0) ps fs₀ fs
   downing_end noted ps fs₀ fs i d h =
       let e : i ≡ 0 = omega arith in
       rw e at d.telling
 
-  pub flags_down : (noted ps fs₀ fs : List ℕ) (i : ℕ) → Flags ps fs₀ → Downing noted ps fs₀ fs i → Flags ps fs
+  pub flags_down : (noted : List Bool) (ps fs₀ fs : List ℕ) (i : ℕ) → Flags ps fs₀ → Downing noted ps fs₀ fs i → Flags ps fs
   flags_down noted ps fs₀ fs i k d = record { rising = k.rising; beside = omega (arith, k.beside, d.telling.same) }
 
   -- ---- the answers
 
-  pub settled_all : (ps fs₀ fs fs' : List ℕ) → Telling (maps4 xs at s len) (among4 xs at s len 0) ps fs₀ fs → Settled (length ps) fs fs' → Flags ps fs₀
-      → fs' ≡ sets fs₀ 0 (flagged (maps4 xs at s len) ps)
+  pub settled_all : (ps fs₀ fs fs' : List ℕ) → Telling (maps_of f) (among_of f 0) ps fs₀ fs → Settled (length ps) fs fs' → Flags ps fs₀
+      → fs' ≡ sets fs₀ 0 (flagged (maps_of f) ps)
   unfolding last_says
   settled_all ps fs₀ fs fs' t d k =
-      ext_get_or 0 fs' (sets fs₀ 0 (flagged (maps4 xs at s len) ps)) (d.same ∙ t.same ∙ sym (length-sets fs₀ 0 (flagged (maps4 xs at s len) ps))) one
+      ext_get_or 0 fs' (sets fs₀ 0 (flagged (maps_of f) ps)) (d.same ∙ t.same ∙ sym (length-sets fs₀ 0 (flagged (maps_of f) ps))) one
     where
-      answer : (w : Bool) (f : ℕ) → Told w false f → f % 2 ≡ flag_of w
-      answer w f (inl a) = rw (a.0, a.1)
-      answer w f (inr a) = rw a (word_flag w)
+      answer : (w : Bool) (u : ℕ) → Told w false u → u % 2 ≡ flag_of w
+      answer w u (inl a) = rw (a.0, a.1)
+      answer w u (inr a) = rw a (word_flag w)
 
-      one : (j : ℕ) → j < length fs' → get_or fs' j 0 ≡ get_or (sets fs₀ 0 (flagged (maps4 xs at s len) ps)) j 0
+      one : (j : ℕ) → j < length fs' → get_or fs' j 0 ≡ get_or (sets fs₀ 0 (flagged (maps_of f) ps)) j 0
       one j h =
           by_leb _ (length ps) j
           (λ (l : length ps ≤ j).
           d.past j l ∙ t.past j l
-          ∙ sym (get_or-sets_other fs₀ 0 (flagged (maps4 xs at s len) ps) j (inr (rw (length-flagged (maps4 xs at s len) ps) (omega arith)))))
+          ∙ sym (get_or-sets_other fs₀ 0 (flagged (maps_of f) ps) j (inr (rw (length-flagged (maps_of f) ps) (omega arith)))))
           (λ (l : j < length ps).
-          d.here j l ∙ answer (maps4 xs at s len (get_or ps j 0)) (get_or fs j 0) (t.told j l) ∙ sym (flag_at (maps4 xs at s len) ps fs₀ j l k.beside))
+          d.here j l ∙ answer (maps_of f (get_or ps j 0)) (get_or fs j 0) (t.told j l) ∙ sym (flag_at (maps_of f) ps fs₀ j l k.beside))
 
 pub ruleset downing = (downing_start, downing_on, downing_end, settled_all)
-
--- one flag after the other is settled
-pub settled_none : (fs : List ℕ) → Settled 0 fs fs
-settled_none fs = record { same = refl; here = λ k h. absurd (omega arith); past = λ k h. refl }
-
-pub settled_on : (fs₀ fs : List ℕ) (j n : ℕ) → Settled j fs₀ fs → j < n → n ≤ length fs₀ → Settled (j + 1) fs₀ (set fs j (get_or fs j 0 % 2))
-settled_on fs₀ fs j n d h l =
-    record {
-      same = length-set fs j (get_or fs j 0 % 2) ∙ d.same;
-      here = λ k a.
-          by_test (get_or (set fs j (get_or fs j 0 % 2)) k 0 ≡ get_or fs₀ k 0 % 2) (eqb k j)
-          (λ t. let q = eqb-true k j t in
-          rw q (get_or-set_same fs j (get_or fs j 0 % 2) 0 (omega (arith, d.same)) ∙ ap (λ f. f % 2) (d.past j (omega arith))))
-          (λ t. let u = eqb-false k j t in
-          get_or-set_other fs j k (get_or fs j 0 % 2) 0 u ∙ d.here k (omega arith));
-      past = λ k a. get_or-set_other fs j k (get_or fs j 0 % 2) 0 (λ q. omega arith) ∙ d.past k (omega arith);
-    }
-
-pub settled_done : (fs₀ fs : List ℕ) (j n : ℕ) → Settled j fs₀ fs → j ≤ n → n ≤ j → Settled n fs₀ fs
-settled_done fs₀ fs j n d h l =
-    let e : n ≡ j = omega arith in
-    rw e d
-
-pub ruleset settling = (settled_none, settled_on, settled_done)

@@ -10,12 +10,11 @@ use lib.Seq.{get_or-set_same, get_or-set_other}
 use borrow.Author.Tests.{le-leb, lt-leb, ne_eqb, eqb-true, eqb-false}
 use Rattle.laws.specs.Choice.{pick}
 use Rattle.laws.specs.Lists.{Rising}
-use Rattle.laws.proofs.ChoiceLaws.{by_test, by_leb}
+use Rattle.laws.proofs.ChoiceLaws.{by_test, by_leb, false-true}
 use Rattle.lists_marks.specs.Marks.{between, flag_of, Bound, Flags, Inside}
 use Rattle.lists_marks.proofs.BelowLaws.{below_past, below_upto, inside}
 use Rattle.laws.proofs.ReadLaws.{get_or_row}
-use Rattle.format4_mapped.specs.declared.SourceSegment.{SourceSegment}
-use Rattle.format4_mapped.specs.Mapped4.{Read4}
+use Rattle.format4_segments.specs.declared.Segment4.{Segment4}
 use Rattle.format4_collect.specs.Downward.{word, decided, Held, Decided, NotedBlocks, DecidedBy}
 
 -- ---- one flag
@@ -108,27 +107,27 @@ held_at v ps fs₀ fs start end low high j l d h = l.each j d.order h
 
 -- ---- blocks
 
-pub noted_none : (n : ℕ) (fs : List ℕ) → NotedBlocks (replicate n 0) fs
-noted_none n fs = record { shut = λ b k s a h z. s (get_or_row {A = ℕ} 0 n b) }
+pub noted_none : (n : ℕ) (fs : List ℕ) → NotedBlocks (replicate n false) fs
+noted_none n fs = record { shut = λ b k s a h z. false-true (sym (get_or_row {A = Bool} false n b) ∙ s) }
 
-module _ (v : ℕ → Bool) (noted ps fs : List ℕ) (low high : ℕ) (n : NotedBlocks noted fs) where
+module _ (v : ℕ → Bool) (noted : List Bool) (ps fs : List ℕ) (low high : ℕ) (n : NotedBlocks noted fs) where
   pub noted_kept : (fs' : List ℕ) → Decided v ps fs fs' low high → NotedBlocks noted fs'
   noted_kept fs' d =
       record { shut = λ b k s a h z. n.shut b k s a h (sym (stays v ps fs fs' low high k d (n.shut b k s a h)) ∙ z) }
 
-  pub noted_more : (fs' : List ℕ) → Decided v ps fs fs' low high → low + 256 ≤ high → high ≤ 256 * (low / 256) + 256 → NotedBlocks (set noted (low / 256) 1) fs'
+  pub noted_more : (fs' : List ℕ) → Decided v ps fs fs' low high → low + 256 ≤ high → high ≤ 256 * (low / 256) + 256 → NotedBlocks (set noted (low / 256) true) fs'
   noted_more fs' d l u = record { shut = one }
     where
-      one : (b k : ℕ) → (get_or (set noted (low / 256) 1) b 0 ≡ 0 → ⊥) → 256 * b ≤ k → k < 256 * b + 256 → get_or fs' k 0 ≡ 0 → ⊥
+      one : (b k : ℕ) → get_or (set noted (low / 256) true) b false ≡ true → 256 * b ≤ k → k < 256 * b + 256 → get_or fs' k 0 ≡ 0 → ⊥
       one b k s a h z =
           by_test ⊥ (eqb b (low / 256))
           (λ t. let q = eqb-true b (low / 256) t in
           let a' : 256 * (low / 256) ≤ k = rw q at a in
           let h' : k < 256 * (low / 256) + 256 = rw q at h in
           decided_some (v (get_or ps k 0)) (get_or fs k 0) (sym (d.here k (omega arith) (omega arith)) ∙ z))
-          (λ t. (noted_kept fs' d).shut b k (rw (get_or-set_other noted (low / 256) b 1 0 (eqb-false b (low / 256) t)) at s) a h z)
+          (λ t. (noted_kept fs' d).shut b k (rw (get_or-set_other noted (low / 256) b true false (eqb-false b (low / 256) t)) at s) a h z)
 
-  pub noted_skip : (get_or noted (low / 256) 0 ≡ 0 → ⊥) → low < high → high ≤ 256 * (low / 256) + 256 → Decided v ps fs fs low high
+  pub noted_skip : get_or noted (low / 256) false ≡ true → low < high → high ≤ 256 * (low / 256) + 256 → Decided v ps fs fs low high
   noted_skip s l u =
       record {
         same = refl;
@@ -152,8 +151,8 @@ below_few ps c n r b =
     let h : c < length ps = omega (arith, b.within) in
     omega (arith, b.is, below_upto ps c c r h (rising_over ps r c h)))
 
-pub span_few : (xs ps fs : List ℕ) (at s i n : ℕ) (g : SourceSegment) → Flags ps fs → Read4 xs at s i g → Bound ps (g.end + 1) n → n ≤ 65536
-span_few xs ps fs at s i n g k r b = omega (arith, below_few ps (g.end + 1) n k.rising b, r.end_below)
+pub span_few : (ps fs : List ℕ) (n : ℕ) (g : Segment4) → Flags ps fs → Bound ps (g.read.end + 1) n → n ≤ 65536
+span_few ps fs n g k b = omega (arith, below_few ps (g.read.end + 1) n k.rising b, g.is_read.end_below)
 
 module _ (ps : List ℕ) (start end low high : ℕ) (r : Rising ps) (a : Bound ps start low) (b : Bound ps (end + 1) high) where
   pub held_all : Held ps start end low high

@@ -3,16 +3,14 @@
 #![tactic(auto)]
 
 ghost use Rattle.std.specs.Prelude.{◌≡◌, ◌+◌, ◌*◌, ◌/◌, ◌≤◌, ◌<◌, length};
-ghost use Rattle.lists_marks.specs.Marks.{Flags, flagged, flag_of, painted, Cleared};
-ghost use Rattle.source.specs.Room.{Room4};
-ghost use Rattle.format4_mapped.specs.Mapped4.{Read4, says4, holds4, among4, maps4};
+ghost use Rattle.lists_marks.specs.Marks.{Flags, flagged, painted, Cleared};
+ghost use Rattle.format4_segments.specs.Asked.{says_of, holds_of, among_of, maps_of};
 ghost use Rattle.format4_collect.specs.Downward.{decided, Held, Decided, NotedBlocks, DecidedBy};
 ghost use Rattle.std.proofs.lemmas.List.Edits.{sets};
 ghost use Rattle.format4_collect.specs.Walks.{Telling, Settled, Walked};
 
-use format4_mapped::SourceSegment;
+use format4_segments::{Format4, Segment4};
 use lists_spans::Span;
-use source::Segments;
 
 // Walking down, what is decided is known in blocks of so many flags.
 const BLOCK: usize = 256;
@@ -22,205 +20,143 @@ fn decided_flag(flag: u8, mapped: bool) -> u8
     ensures { result ≡ decided mapped flag }
 {
     if flag != 0 {
-        return flag;
+        flag
+    } else if mapped {
+        1
+    } else {
+        2
     }
-    if mapped {
-        return 1;
-    }
-    2
 }
 
-// Segment i's word on the points of a span, all of which it holds.
-fn decide_points(
-    s: &[u8],
-    t: Segments,
-    i: usize,
-    segment: SourceSegment,
-    points: &[u32],
-    flags: &mut [u8],
-    span: Span,
-)
-    requires room4 { Room4 s.now t }
-    requires read4 { Read4 s.now t.at t.segs i segment }
-    requires i_lt_segs { (i < t.segs) × (span.low ≤ span.high) }
-    requires held { Held points.now segment.start segment.end span.low span.high }
+// A segment's word on the points of a span, all of which it holds.
+fn decide_points(segment: &Segment4, points: &[u32], flags: &mut [u8], span: Span)
+    requires order { span.low ≤ span.high }
+    requires held { Held points.now segment.now.read.start segment.now.read.end span.low span.high }
     requires flags { Flags points.now flags.old }
-    ensures { Decided (says4 s.now t.at t.segs t.len i segment) points.now flags.old flags.new span.low span.high }
+    ensures { Decided (says_of segment.now) points.now flags.old flags.new span.low span.high }
 {
-    let mut j = span.low;
-    while j < span.high {
-        let c = points[j];
-        let flag = flags[j];
-        flags[j] = decided_flag(flag, format4_segments::segment_maps(s, t, i, segment, c));
-        j += 1;
+    for j in span.low..span.high {
+        flags[j] = decided_flag(flags[j], segment.maps(points[j]));
     }
 }
 
 // The same within one block: passed over where the block is noted, and noted where it is decided whole.
 fn decide_block(
-    s: &[u8],
-    t: Segments,
-    i: usize,
-    segment: SourceSegment,
+    segment: &Segment4,
     points: &[u32],
     flags: &mut [u8],
-    noted: &mut [u8; 256],
+    noted: &mut [bool; 256],
     span: Span,
 )
-    requires room4 { Room4 s.now t }
-    requires read4 { Read4 s.now t.at t.segs i segment }
-    requires i_lt_segs { (i < t.segs) × (span.low < 65536) }
-    requires held { Held points.now segment.start segment.end span.low span.high }
+    requires low_lt_high { (span.low < 65536) × (span.low < span.high) × (span.high ≤ 256 * (span.low / 256) + 256) }
+    requires held { Held points.now segment.now.read.start segment.now.read.end span.low span.high }
     requires flags { Flags points.now flags.old }
     requires noted_blocks { NotedBlocks noted.old flags.old }
-    requires low_lt_high { (span.low < span.high) × (span.high ≤ 256 * (span.low / 256) + 256) }
-    ensures decided { Decided (says4 s.now t.at t.segs t.len i segment) points.now flags.old flags.new span.low span.high }
+    ensures decided { Decided (says_of segment.now) points.now flags.old flags.new span.low span.high }
     ensures noted_blocks_2 { NotedBlocks noted.new flags.new }
 {
-    if noted[span.low / BLOCK] != 0 {
+    let block = span.low / BLOCK;
+    if noted[block] {
         return;
     }
-    decide_points(s, t, i, segment, points, flags, span);
+    decide_points(segment, points, flags, span);
     if span.low + BLOCK <= span.high {
-        noted[span.low / BLOCK] = 1;
+        noted[block] = true;
     }
 }
 
-// The same, block by block.
+// The same, block by block. A `for` cannot jump to the next block.
 fn decide_blocks(
-    s: &[u8],
-    t: Segments,
-    i: usize,
-    segment: SourceSegment,
+    segment: &Segment4,
     points: &[u32],
     flags: &mut [u8],
-    noted: &mut [u8; 256],
+    noted: &mut [bool; 256],
     span: Span,
 )
-    requires room4 { Room4 s.now t }
-    requires read4 { Read4 s.now t.at t.segs i segment }
-    requires i_lt_segs { (i < t.segs) × (span.low ≤ span.high) × (span.high ≤ 65536) }
-    requires held { Held points.now segment.start segment.end span.low span.high }
+    requires order { (span.low ≤ span.high) × (span.high ≤ 65536) }
+    requires held { Held points.now segment.now.read.start segment.now.read.end span.low span.high }
     requires flags { Flags points.now flags.old }
     requires noted_blocks { NotedBlocks noted.old flags.old }
-    ensures decided { Decided (says4 s.now t.at t.segs t.len i segment) points.now flags.old flags.new span.low span.high }
+    ensures decided { Decided (says_of segment.now) points.now flags.old flags.new span.low span.high }
     ensures noted_blocks_2 { NotedBlocks noted.new flags.new }
 {
     let mut j = span.low;
     while j < span.high {
         let end = lists_flags::block_end(j, span.high);
         let block = Span { low: j, high: end };
-        decide_block(s, t, i, segment, points, flags, noted, block);
+        decide_block(segment, points, flags, noted, block);
         j = end;
     }
 }
 
-// Segment i's word on the points that it holds and of which no later segment said anything.
-pub fn decide_segment(
-    s: &[u8],
-    t: Segments,
-    i: usize,
-    segment: SourceSegment,
-    points: &[u32],
-    flags: &mut [u8],
-    noted: &mut [u8; 256],
-)
-    requires room4 { Room4 s.now t }
-    requires read4 { Read4 s.now t.at t.segs i segment }
-    requires i_lt_segs { i < t.segs }
+// A segment's word on the points that it holds and of which no later segment said anything.
+pub fn decide_segment(segment: &Segment4, points: &[u32], flags: &mut [u8], noted: &mut [bool; 256])
     requires flags { Flags points.now flags.old }
     requires noted_blocks { NotedBlocks noted.old flags.old }
-    ensures decided_by { DecidedBy (holds4 segment) (says4 s.now t.at t.segs t.len i segment) points.now flags.old flags.new }
+    ensures decided_by { DecidedBy (holds_of segment.now) (says_of segment.now) points.now flags.old flags.new }
     ensures noted_blocks_2 { NotedBlocks noted.new flags.new }
 {
-    let span = lists_spans::span_near(points, segment.start, segment.end, 0);
+    let span = lists_spans::span_near(points, segment.read.start, segment.read.end, 0);
     if span.low < span.high {
-        decide_blocks(s, t, i, segment, points, flags, noted, span);
+        decide_blocks(segment, points, flags, noted, span);
     }
 }
 
-fn flag_of(mapped: bool) -> u8
-    ensures { result ≡ flag_of mapped }
-{
-    if mapped {
-        return 1;
-    }
-    0
-}
-
-// Segment i's word on the points that it holds, written over what earlier segments said; where the next segment's points most likely
+// A segment's word on the points that it holds, written over what earlier segments said; where the next segment's points most likely
 // begin, which the walk hands on as `near`.
-fn mark_segment(
-    s: &[u8],
-    t: Segments,
-    i: usize,
-    segment: SourceSegment,
-    points: &[u32],
-    flags: &mut [u8],
-    near: usize,
-) -> usize
-    requires room4 { Room4 s.now t }
-    requires read4 { Read4 s.now t.at t.segs i segment }
-    requires i_lt_segs { i < t.segs }
-    requires flags { Flags points.now flags.old }
-    ensures { flags.new ≡ painted (holds4 segment) (says4 s.now t.at t.segs t.len i segment) points.now flags.old }
+fn mark_segment(segment: &Segment4, points: &[u32], flags: &mut [u8], near: usize) -> usize
+    requires { Flags points.now flags.old }
+    ensures { flags.new ≡ painted (holds_of segment.now) (says_of segment.now) points.now flags.old }
 {
-    if lists_spans::is_passed(points, segment.start, segment.end, near) {
+    let read = segment.read;
+    if lists_spans::is_passed(points, read.start, read.end, near) {
         return near;
     }
-    let span = lists_spans::span_near(points, segment.start, segment.end, near);
-    let mut j = span.low;
-    while j < span.high {
-        let c = points[j];
-        flags[j] = flag_of(format4_segments::segment_maps(s, t, i, segment, c));
-        j += 1;
+    let span = lists_spans::span_near(points, read.start, read.end, near);
+    for j in span.low..span.high {
+        flags[j] = u8::from(segment.maps(points[j]));
     }
     span.high
 }
 
 // Whether a segment starts where those before it end or behind: then few points are held twice.
-fn in_order(segment: SourceSegment, past: u32) -> bool {
-    past <= segment.start && segment.start <= segment.end
+fn in_order(segment: &Segment4, past: u32) -> bool {
+    let read = segment.read;
+    past <= read.start && read.start <= read.end
 }
 
 // The walk over segments in order, from flags that are clear; false where it met one that is not in order, and the flags say nothing.
-fn mark_in_order(s: &[u8], t: Segments, points: &[u32], flags: &mut [u8]) -> bool
-    requires room4 { Room4 s.now t }
+fn mark_in_order(subtable: &Format4, points: &[u32], flags: &mut [u8]) -> bool
     requires flags { Flags points.now flags.old }
     requires cleared { Cleared (length points.now) flags.old }
-    ensures { Walked result (maps4 s.now t.at t.segs t.len) points.now flags.old flags.new }
+    ensures { Walked result (maps_of subtable.now) points.now flags.old flags.new }
 {
     let mut near = 0;
     let mut past = 0;
-    let mut i = 0;
-    while i < t.segs {
-        let segment = format4_segments::segment_at(s, t, i);
-        if segment.start == SourceSegment::WALK_END {
+    for i in 0..subtable.place.segs {
+        let segment = subtable.segment_at(i);
+        if segment.ends_walk() {
             return true;
         }
-        if !in_order(segment, past) {
+        if !in_order(&segment, past) {
             return false;
         }
-        near = mark_segment(s, t, i, segment, points, flags, near);
-        past = segment.end;
-        i += 1;
+        near = mark_segment(&segment, points, flags, near);
+        past = segment.read.end;
     }
     true
 }
 
 // The walk from the last segment to the first, from flags that are clear and with nothing noted.
-fn mark_down_by(s: &[u8], t: Segments, points: &[u32], flags: &mut [u8], noted: &mut [u8; 256])
-    requires room4 { Room4 s.now t }
+fn mark_down_by(subtable: &Format4, points: &[u32], flags: &mut [u8], noted: &mut [bool; 256])
     requires flags { Flags points.now flags.old }
     requires cleared { Cleared (length points.now) flags.old }
     requires noted_blocks { NotedBlocks noted.old flags.old }
-    ensures { Telling (maps4 s.now t.at t.segs t.len) (among4 s.now t.at t.segs t.len 0) points.now flags.old flags.new }
+    ensures { Telling (maps_of subtable.now) (among_of subtable.now 0) points.now flags.old flags.new }
 {
-    let mut i = format4_segments::walk_end(s, t);
-    while 0 < i {
-        i -= 1;
-        let segment = format4_segments::segment_at(s, t, i);
-        decide_segment(s, t, i, segment, points, flags, noted);
+    for i in (0..subtable.walk_end()).rev() {
+        let segment = subtable.segment_at(i);
+        decide_segment(&segment, points, flags, noted);
     }
 }
 
@@ -229,45 +165,40 @@ fn settle(flags: &mut [u8], n: usize)
     requires { n ≤ length flags.old }
     ensures { Settled n flags.old flags.new }
 {
-    let mut j = 0;
-    while j < n {
-        flags[j] = flags[j] % 2;
-        j += 1;
+    for j in 0..n {
+        flags[j] %= 2;
     }
 }
 
 // The same for segments in any order, in a time that does not grow with how often points are held.
-fn mark_down(s: &[u8], t: Segments, points: &[u32], flags: &mut [u8])
-    requires room4 { Room4 s.now t }
+fn mark_down(subtable: &Format4, points: &[u32], flags: &mut [u8])
     requires flags { Flags points.now flags.old }
     requires cleared { Cleared (length points.now) flags.old }
-    ensures { flags.new ≡ sets flags.old 0 (flagged (maps4 s.now t.at t.segs t.len) points.now) }
+    ensures { flags.new ≡ sets flags.old 0 (flagged (maps_of subtable.now) points.now) }
 {
-    let mut noted = [0u8; 256];
-    mark_down_by(s, t, points, flags, &mut noted);
+    let mut noted = [false; 256];
+    mark_down_by(subtable, points, flags, &mut noted);
     settle(flags, points.len());
 }
 
 // The walk over the segments, from flags that are clear.
-fn mark_segments(s: &[u8], t: Segments, points: &[u32], flags: &mut [u8])
-    requires room4 { Room4 s.now t }
+fn mark_segments(subtable: &Format4, points: &[u32], flags: &mut [u8])
     requires flags { Flags points.now flags.old }
     requires cleared { Cleared (length points.now) flags.old }
-    ensures { flags.new ≡ sets flags.old 0 (flagged (maps4 s.now t.at t.segs t.len) points.now) }
+    ensures { flags.new ≡ sets flags.old 0 (flagged (maps_of subtable.now) points.now) }
 {
-    if mark_in_order(s, t, points, flags) {
+    if mark_in_order(subtable, points, flags) {
         return;
     }
     lists_flags::clear(flags, points.len());
-    mark_down(s, t, points, flags);
+    mark_down(subtable, points, flags);
 }
 
 // Sets the flag of each point to whether the subtable maps it.
-pub fn collect_unicodes4(s: &[u8], t: Segments, points: &[u32], flags: &mut [u8])
-    requires room4 { Room4 s.now t }
-    requires flags { Flags points.now flags.old }
-    ensures { flags.new ≡ sets flags.old 0 (flagged (maps4 s.now t.at t.segs t.len) points.now) }
+pub fn collect_unicodes4(subtable: &Format4, points: &[u32], flags: &mut [u8])
+    requires { Flags points.now flags.old }
+    ensures { flags.new ≡ sets flags.old 0 (flagged (maps_of subtable.now) points.now) }
 {
     lists_flags::clear(flags, points.len());
-    mark_segments(s, t, points, flags);
+    mark_segments(subtable, points, flags);
 }

@@ -148,14 +148,10 @@ whole_subtable language gs ss o at =
     ∙ encs_then 2 E (Z ++ (S ++ (D ++ (F ++ A)))) _ (at + 14) (at + 14 + 2 * s) (omega arith)
     ∙ encs_then 2 H (E ++ (Z ++ (S ++ (D ++ (F ++ A))))) _ at (at + 14) (omega arith)
 
--- the header as it is stored: four numbers, then three, and the zero
-pub header_is : (o o₁ o₂ o₃ : List ℕ) (at language s g : ℕ) → o₁ ≡ sets o at (encs 2 (4 ∷ (16 + 8 * s + 2 * g) ∷ language ∷ (2 * s) ∷ []))
-    → o₂ ≡ sets o₁ (at + 8) (encs 2 ((2 * 2 ^ floor_log2 s) ∷ floor_log2 s ∷ (2 * s - 2 * 2 ^ floor_log2 s) ∷ [])) → o₃ ≡ put 2 o₂ (at + 14 + 2 * s) 0
-    → o₃ ≡ headed o at language s g
+-- the header as it is stored: seven numbers, and the zero
+pub header_is : (o o₁ o₂ : List ℕ) (at language s g e : ℕ) → e ≡ floor_log2 s
+    → o₁ ≡ sets o at (encs 2 (4 ∷ (16 + 8 * s + 2 * g) ∷ language ∷ (2 * s) ∷ (2 * 2 ^ e) ∷ e ∷ (2 * s - 2 * 2 ^ e) ∷ []))
+    → o₂ ≡ put 2 o₁ (at + 14 + 2 * s) 0 → o₂ ≡ headed o at language s g
 unfolding header4
-header_is o o₁ o₂ o₃ at language s g e₁ e₂ e₃ =
-    let four : List ℕ = 4 ∷ (16 + 8 * s + 2 * g) ∷ language ∷ (2 * s) ∷ [] in
-    let three : List ℕ = (2 * 2 ^ floor_log2 s) ∷ floor_log2 s ∷ (2 * s - 2 * 2 ^ floor_log2 s) ∷ [] in
-    e₃ ∙ put_one_lem 2 o₂ (at + 14 + 2 * s) 0
-    ∙ ap (λ (k : List ℕ). sets k (at + 14 + 2 * s) (encs 2 (0 ∷ [])))
-    (e₂ ∙ ap (λ (k : List ℕ). sets k (at + 8) (encs 2 three)) e₁ ∙ encs_then 2 four three o at (at + 8) (omega arith))
+header_is o o₁ o₂ at language s g e l e₁ e₂ =
+    e₂ ∙ put_one_lem 2 o₁ (at + 14 + 2 * s) 0 ∙ ap (λ (k : List ℕ). sets k (at + 14 + 2 * s) (encs 2 (0 ∷ []))) (rw l at e₁)

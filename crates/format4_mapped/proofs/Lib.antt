@@ -1,2 +1,1 @@
-pub mod Mapped4Laws
 pub mod CasesLaws

@@ -17,25 +17,23 @@ fn find_segcount(codes: &[u32], glyphs: &[u16]) -> RangeCounter
     let mut state = RangeState::new();
     let mut n = RangeCounter::new();
     let mut i: usize = 0;
-    // A run at a time: growing to its last pair takes in all that go on.
+    // A run at a time, for which a `for` cannot jump: growing to its last pair takes in all that go on.
     while i < codes.len() {
         let a = state.absorb(codes[i] as u16, glyphs[i]);
         let begun = a.state;
-        let out = a.out;
-        n = n.absorb(out);
+        n = n.absorb(a.out);
         i = lists_runs::run_end(codes, glyphs, i);
         state = begun.grow(codes[i - 1] as u16, glyphs[i - 1]);
     }
     let f = state.finish();
-    let out = f.out;
-    n.absorb(out).close(f.close)
+    n.absorb(f.out).close(f.close)
 }
 
 pub fn format4_size(codes: &[u32], glyphs: &[u16]) -> Size4
     requires { Columns16 codes.now glyphs.now }
     ensures { result ≡ size_of4 (pairs codes.now glyphs.now) }
 {
-    if codes.len() == 0 {
+    if codes.is_empty() {
         return Size4::Empty;
     }
     let n = find_segcount(codes, glyphs);

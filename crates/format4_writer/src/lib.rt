@@ -10,51 +10,29 @@ ghost use Rattle.format4_cutting.specs.Cutting.{segments};
 ghost use Rattle.format4.specs.Format4.{floor_log2, format4};
 ghost use Rattle.format4.specs.Size.{Columns16, length_of4, size_of4};
 ghost use Rattle.format4_columns.specs.Places.{SegmentsRoom, columns_at, Apart, headed, Space};
-ghost use Rattle.format4_writer.specs.Log.{Logs};
 
 use format4::RangeCounter;
 use format4_columns::RangeWriter;
 use format4_cutting::RangeState;
 
-#[derive(Clone, Copy)]
-struct Log {
-    e: u32,
-    power: u32,
-}
-
-// log2 of s rounded down, and its power of two.
-fn floor_log2(s: u32) -> Log
+// log2 of s rounded down.
+fn floor_log2(s: u32) -> u32
     requires { (1 ≤ s) × (s < 65536) }
-    ensures { Logs s result }
+    ensures value { result ≡ floor_log2 s }
+    ensures power { 2 ^ result ≤ s }
+    ensures small { (result ≤ s) × (result < 32) }
 {
-    let mut e: u32 = 0;
-    let mut power: u32 = 1;
-    while power * 2 <= s {
-        power *= 2;
-        e += 1;
+    s.ilog2()
+}
+
+// Numbers of two bytes each. The glyph array has a loop of its own, since its glyphs are a part of a longer column and of another type.
+fn put_row(out: &mut [u8], at: usize, row: &[u32])
+    requires { at + 2 * length row.now ≤ length out.old }
+    ensures { out.new ≡ sets out.old at (encs 2 row.now) }
+{
+    for (i, number) in row.iter().enumerate() {
+        number_writer::put_u16(out, at + 2 * i, *number);
     }
-    Log { e: e, power: power }
-}
-
-fn put_four(out: &mut [u8], at: usize, a: u32, b: u32, c: u32, d: u32)
-    requires { at + 8 ≤ length out.old }
-    ensures { out.new ≡ sets out.old at (encs 2 (a ∷ b ∷ c ∷ d ∷ [])) }
-{
-    number_writer::put_u16(out, at, a);
-    number_writer::put_u16(out, at + 2, b);
-    number_writer::put_u16(out, at + 4, c);
-    number_writer::put_u16(out, at + 6, d);
-}
-
-// searchRange, entrySelector and rangeShift of s segments.
-fn put_search(out: &mut [u8], at: usize, s: u32)
-    requires { (1 ≤ s) × ((s < 65536) × (at + 6 ≤ length out.old)) }
-    ensures { out.new ≡ sets out.old at (encs 2 ((2 * 2 ^ floor_log2 s) ∷ floor_log2 s ∷ (2 * s - 2 * 2 ^ floor_log2 s) ∷ [])) }
-{
-    let l = floor_log2(s);
-    number_writer::put_u16(out, at, 2 * l.power);
-    number_writer::put_u16(out, at + 2, l.e);
-    number_writer::put_u16(out, at + 4, 2 * s - 2 * l.power);
 }
 
 // The seven numbers of the header, and the zero after the ends.
@@ -62,15 +40,12 @@ fn put_header(out: &mut [u8], at: usize, language: u32, s: usize, g: usize)
     requires { Space s g at (length out.old) }
     ensures { out.new ≡ headed out.old at language s g }
 {
-    put_four(
-        out,
-        at,
-        4,
-        (16 + 8 * s + 2 * g) as u32,
-        language,
-        (2 * s) as u32,
-    );
-    put_search(out, at + 8, s as u32);
+    let length = (16 + 8 * s + 2 * g) as u32;
+    let twice = (2 * s) as u32;
+    let log = floor_log2(s as u32);
+    let range = 2 * (1 << log);
+    let header = [4, length, language, twice, range, log, twice - range];
+    put_row(out, at, &header);
     number_writer::put_u16(out, at + 14 + 2 * s, 0);
 }
 
@@ -84,19 +59,17 @@ fn write_columns(out: &mut [u8], codes: &[u32], glyphs: &[u16], at: RangeWriter)
     let mut state = RangeState::new();
     let mut w = at;
     let mut i: usize = 0;
-    // A run at a time: growing to its last pair takes in all that go on.
+    // A run at a time, for which a `for` cannot jump: growing to its last pair takes in all that go on.
     while i < codes.len() {
         let a = state.absorb(codes[i] as u16, glyphs[i]);
         let begun = a.state;
-        let c = a.out;
-        w = format4_columns::absorb(w, out, glyphs, c);
+        w = w.absorb(out, glyphs, a.out);
         i = lists_runs::run_end(codes, glyphs, i);
         state = begun.grow(codes[i - 1] as u16, glyphs[i - 1]);
     }
     let f = state.finish();
-    let c = f.out;
-    let v = format4_columns::absorb(w, out, glyphs, c);
-    format4_columns::close(v, out, glyphs, f.close);
+    let v = w.absorb(out, glyphs, f.out);
+    v.close(out, glyphs, f.close);
 }
 
 // The whole subtable, from at. n is what format4_size gave.

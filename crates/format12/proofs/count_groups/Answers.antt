@@ -1,5 +1,4 @@
 -- What was counted and the groups of the pairs ahead are together the groups of the definition.
-use Prim.Native.Nat.{◌-◌}
 use borrow.Author.Rules.{rules}
 use Rattle.format12.proofs.WalkLaws.{counting}
 use Rattle.format12.proofs.count_groups.Goals as goal

@@ -1,6 +1,5 @@
 -- After g groups the flags say what those groups map.
 use borrow.Author.Rules.{rules}
-use Prim.Native.Nat.{◌-◌}
 use Rattle.format12_collect.proofs.CollectLaws.{marking}
 use Rattle.format12_collect.proofs.mark_groups_by.Goals as goal
 

@@ -7,6 +7,3 @@ returns-then-high-done c = search parts
 
 pub returns-then-i-done : goal.returns-then-i-done
 returns-then-i-done c = search parts
-
-pub returns : goal.returns
-returns c = search parts

@@ -17,6 +17,6 @@ pub returns-then-glyph-end : goal.returns-then-glyph-end
 unfolding clip12
 returns-then-glyph-end c = else_lt _ _ _ _ (omega arith) (else_le _ _ _ _ (omega arith) (if_lt_lem _ _ _ _ (omega arith) refl))
 
-pub returns : goal.returns
+pub returns-else-glyph-end : goal.returns-else-glyph-end
 unfolding clip12
-returns c = else_lt _ _ _ _ (omega arith) (else_le _ _ _ _ (omega arith) (else_lt _ _ _ _ (omega arith) (rw c.least-last.ensures)))
+returns-else-glyph-end c = else_lt _ _ _ _ (omega arith) (else_le _ _ _ _ (omega arith) (else_lt _ _ _ _ (omega arith) (rw c.min-end.ensures)))

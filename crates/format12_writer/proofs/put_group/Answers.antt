@@ -9,5 +9,5 @@ pub returns : goal.returns
 unfolding encs enc
 returns c = let w₁ = written_first 4 _ _ _ c.put_u32.ensures in
     let w₂ = written_on 4 _ _ w₁ c.put_u32-2.ensures (omega arith) in
-    let w₃ = written_on 4 _ _ w₂ c.put_u32-3.ensures (omega arith) in
+    let w₃ = written_on 4 _ _ w₂ (rw c.from.ensures at c.put_u32-3.ensures) (omega arith) in
     w₃.is

@@ -1,15 +1,11 @@
 -- The flags from low up to j are decided, and the notes are true of them.
 use Rattle.format4_collect.proofs.DownwardLaws.{deciding, decided_then, held_part, flags_kept}
 use native.Mathlib.Omega.{arith}
-use Prim.Native.Nat.{◌-◌}
 use borrow.Author.Rules.{rules}
 use Rattle.format4_collect.proofs.decide_blocks.Goals as goal
 
 pub loop-j-init : goal.loop-j-init
 loop-j-init c = (search deciding, search rules, omega arith)
-
-pub decide_block-requires-clause-i_lt_segs : goal.decide_block-requires-clause-i_lt_segs
-decide_block-requires-clause-i_lt_segs c = (omega arith, omega arith)
 
 pub decide_block-requires-clause-held : goal.decide_block-requires-clause-held
 decide_block-requires-clause-held c = search held_part

@@ -3,8 +3,8 @@ use Rattle.format4_collect.proofs.DownwardLaws.{holding, span_few}
 use native.Mathlib.Omega.{arith}
 use Rattle.format4_collect.proofs.decide_segment.Goals as goal
 
-pub decide_blocks-requires-clause-i_lt_segs : goal.decide_blocks-requires-clause-i_lt_segs
-decide_blocks-requires-clause-i_lt_segs c = (omega arith, omega arith, search span_few)
+pub decide_blocks-requires-clause-order : goal.decide_blocks-requires-clause-order
+decide_blocks-requires-clause-order c = (omega arith, search span_few)
 
 pub decide_blocks-requires-clause-held : goal.decide_blocks-requires-clause-held
 decide_blocks-requires-clause-held c = search holding

@@ -11,6 +11,6 @@ pub returns-then-mapped : goal.returns-then-mapped
 unfolding decided
 returns-then-mapped c = search (tests, c.if-mapped.true)
 
-pub returns : goal.returns
+pub returns-else-mapped : goal.returns-else-mapped
 unfolding decided
-returns c = search (tests, c.if-mapped.false)
+returns-else-mapped c = search (tests, c.if-mapped.false)

@@ -1,15 +1,9 @@
 -- After the segments from i on, the flags and the segments before tell the whole.
-use Rattle.format4_collect.proofs.DownLaws.{downing, downing_on, flags_down}
+use Rattle.format4_collect.proofs.DownLaws.{downing, downing_on}
 use Rattle.format4_collect.proofs.mark_down_by.Goals as goal
 
 pub loop-i-init : goal.loop-i-init
 loop-i-init c = search downing
 
-pub decide_segment-requires-clause-flags : goal.decide_segment-requires-clause-flags
-decide_segment-requires-clause-flags c = search flags_down
-
 pub loop-i-preserved : goal.loop-i-preserved
 loop-i-preserved c = search downing_on
-
-pub returns : goal.returns
-returns c = search downing

@@ -1,10 +1,6 @@
-use Prim.Native.Nat.{◌-◌}
 use Rattle.lists_marks.proofs.MarksLaws.{Painting}
-use Rattle.format4_mapped.specs.Mapped4.{says4}
+use Rattle.format4_segments.specs.Asked.{says_of}
 use Rattle.format4_collect.proofs.mark_segment.Given as goal
 
 abbrev pub invariant-loop-j : goal.invariant-loop-j
-invariant-loop-j l = Painting (says4 l.s l.t.at l.t.segs l.t.len l.i l.segment) l.points l.initial.flags l.flags l.span.low l.span.high l.j
-
-abbrev pub decreases-loop-j : goal.decreases-loop-j
-decreases-loop-j l = l.span.high - l.j
+invariant-loop-j l = Painting (says_of l.segment) l.points l.initial.flags l.flags l.span.low l.span.high l.j

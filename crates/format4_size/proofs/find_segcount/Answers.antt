@@ -1,5 +1,4 @@
 -- Counting what the first pair of each run commits, and then what is left and the closing segment, counts the whole cut.
-use Prim.Native.Nat.{◌-◌}
 use Rattle.format4.proofs.CountLaws.{counting_start, counting_on, ending_below, counting_end}
 use Rattle.format4_size.proofs.find_segcount.Goals as goal
 

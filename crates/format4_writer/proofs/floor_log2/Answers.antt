@@ -1,13 +1,9 @@
--- The power is 2^e, and twice it still does not exceed s where the loop goes on.
-use native.Mathlib.Omega.{arith}
-use Rattle.format4_writer.proofs.LogLaws.{doubling_start, doubling_on, doubling_end}
+-- The library's logarithm is told by its two bounds.
+use Rattle.format4_writer.proofs.LogLaws.{log_small, log_is}
 use Rattle.format4_writer.proofs.floor_log2.Goals as goal
 
-pub loop-power-init : goal.loop-power-init
-loop-power-init c = doubling_start _ (omega arith)
+pub returns-clause-value : goal.returns-clause-value
+returns-clause-value c = log_is _ _ c.ilog2.ensures.power_le c.ilog2.ensures.next_power_gt
 
-pub loop-power-preserved : goal.loop-power-preserved
-loop-power-preserved c = search doubling_on
-
-pub returns : goal.returns
-returns c = search doubling_end
+pub returns-clause-small : goal.returns-clause-small
+returns-clause-small c = (log_small _ _ c.ilog2.ensures.power_le c.ilog2.ensures.next_power_gt, c.ilog2.ensures.bound)

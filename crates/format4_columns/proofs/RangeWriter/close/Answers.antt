@@ -1,10 +1,7 @@
 -- One segment more, or none.
 use mathlib.Core.Path.{refl}
 use Rattle.format4_columns.specs.Places.{put_all}
-use Rattle.format4_columns.proofs.close.Goals as goal
-
-pub write_one_range-requires : goal.write_one_range-requires
-write_one_range-requires c = rw c.if-close.true at c.requires
+use Rattle.format4_columns.proofs.RangeWriter.close.Goals as goal
 
 pub returns-then-close : goal.returns-then-close
 unfolding put_all

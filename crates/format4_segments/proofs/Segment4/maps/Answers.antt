@@ -5,11 +5,11 @@ use Rattle.format4_mapped.specs.Mapped4.{says4}
 use mathlib.Core.Path.{refl, ap}
 use lib.Dec.{ltb}
 use borrow.Author.Rules.{rules}
-use Rattle.format4_segments.proofs.segment_maps.Goals as goal
+use Rattle.format4_segments.proofs.Segment4.maps.Goals as goal
 
-pub returns-then-segment-eq0 : goal.returns-then-segment-eq0
+pub returns-then-read-eq0 : goal.returns-then-read-eq0
 unfolding says4
-returns-then-segment-eq0 c = if_eq_lem _ _ _ _ (omega arith) refl
+returns-then-read-eq0 c = if_eq_lem _ _ _ _ (omega arith) refl
 
 pub returns : goal.returns
 unfolding says4

@@ -3,7 +3,7 @@ use native.Mathlib.Omega.{arith}
 use Rattle.laws.proofs.ChoiceLaws.{if_lt_lem, else_lt}
 use Rattle.format4_mapped.specs.Mapped4.{entry4}
 use mathlib.Core.Path.{refl}
-use Rattle.format4_segments.proofs.entry.Goals as goal
+use Rattle.format4_segments.proofs.Format4.entry.Goals as goal
 
 pub returns-then-place-t : goal.returns-then-place-t
 unfolding entry4
