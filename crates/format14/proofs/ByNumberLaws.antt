@@ -23,8 +23,8 @@ use Rattle.format14_uvs.proofs.TablesLaws.{counts_head, counts_inside}
 use Rattle.format14_ranges.specs.Stream.{DefaultLent}
 use Rattle.format14_mapping.specs.Lent.{NonDefaultLent}
 use Rattle.format14.proofs.ShapeLaws.{length_default, length_non_default, tables_apart}
-use Rattle.format14.specs.Selectors.{Job14, job14, keeps_selector, default_table, non_default_table, bad_record}
-use Rattle.format14.specs.ByNumber.{slot, bad_slot, table_offset, source_table, SourceOffset, Readable, Numbered, SlotLength, BothThere}
+use Rattle.format14.specs.Selectors.{Job14, keeps_selector, default_table, non_default_table, bad_record}
+use Rattle.format14.specs.ByNumber.{slot, bad_slot, table_offset, source_table, SourceOffset, ReadableJob, Numbered, SlotLength, BothThere}
 
 -- ---- the size of a record of table t
 
@@ -52,17 +52,17 @@ counts_fits size xs at len off e =
 
 -- ---- its offset
 
-module _ (xs : List ℕ) (at len : ℕ) (kept : List ℕ) (t : ℕ) (x : ℕ) (b : Bool) (n : Num 3 xs (at + 10 + 11 * (t / 2)) x) (h : b ≡ holds kept x) where
-  pub source_dropped : b ≡ false → SourceOffset xs at len kept t 0
+module _ (g : Job14) (t : ℕ) (x : ℕ) (b : Bool) (n : Num 3 g.source (g.start + 10 + 11 * (t / 2)) x) (h : b ≡ holds g.kept x) where
+  pub source_dropped : b ≡ false → SourceOffset g t 0
   unfolding source_table
   source_dropped e = record { is = rw (← n.is, ← h, e); within = omega arith }
 
-  module _ (off : ℕ) (d : Bool) (e : b ≡ true) (m : Num 4 xs (at + 10 + 11 * (t / 2) + 3 + 4 * (t % 2)) off) (q : d ≡ counts (4 + t % 2) xs at len off) where
-    pub source_counts : d ≡ true → SourceOffset xs at len kept t off
+  module _ (off : ℕ) (d : Bool) (e : b ≡ true) (m : Num 4 g.source (g.start + 10 + 11 * (t / 2) + 3 + 4 * (t % 2)) off) (q : d ≡ counts (4 + t % 2) g.source g.start g.size off) where
+    pub source_counts : d ≡ true → SourceOffset g t off
     unfolding source_table table_offset
-    source_counts c = record { is = rw (← n.is, ← h, e, ← m.is, ← q, c); within = omega (arith, (counts_fits (4 + t % 2) xs at len off (sym q ∙ c)).1.0) }
+    source_counts c = record { is = rw (← n.is, ← h, e, ← m.is, ← q, c); within = omega (arith, (counts_fits (4 + t % 2) g.source g.start g.size off (sym q ∙ c)).1.0) }
 
-    pub source_uncounted : d ≡ false → SourceOffset xs at len kept t 0
+    pub source_uncounted : d ≡ false → SourceOffset g t 0
     unfolding source_table table_offset
     source_uncounted c = record { is = rw (← n.is, ← h, e, ← m.is, ← q, c); within = omega arith }
 
@@ -70,180 +70,175 @@ pub ruleset source_rules = (source_dropped, source_counts, source_uncounted)
 
 -- ---- what stands there
 
--- a table of a kept selector that counts
-pub record Found (xs : List ℕ) (at len : ℕ) (kept : List ℕ) (t off : ℕ) : Type 0 where
-  pub keeps : holds kept (be 3 xs (at + 10 + 11 * (t / 2))) ≡ true
-  pub counted : counts (4 + t % 2) xs at len off ≡ true
-  pub is : off ≡ table_offset xs at t
+-- a table of a g.kept selector that counts
+pub record Found (g : Job14) (t off : ℕ) : Type 0 where
+  pub keeps : holds g.kept (be 3 g.source (g.start + 10 + 11 * (t / 2))) ≡ true
+  pub counted : counts (4 + t % 2) g.source g.start g.size off ≡ true
+  pub is : off ≡ table_offset g t
 
-module _ (xs : List ℕ) (at len : ℕ) (kept : List ℕ) (t : ℕ) where
-  pub found : (off : ℕ) → off ≡ source_table xs at len kept t → (off ≡ 0 → ⊥) → Found xs at len kept t off
+module _ (g : Job14) (t : ℕ) where
+  pub found : (off : ℕ) → off ≡ source_table g t → (off ≡ 0 → ⊥) → Found g t off
   unfolding source_table
   found off e z =
-      let k = holds kept (be 3 xs (at + 10 + 11 * (t / 2))) in
-      let c = counts (4 + t % 2) xs at len (table_offset xs at t) in
-      by_test (Found xs at len kept t off) (both k c)
+      let k = holds g.kept (be 3 g.source (g.start + 10 + 11 * (t / 2))) in
+      let c = counts (4 + t % 2) g.source g.start g.size (table_offset g t) in
+      by_test (Found g t off) (both k c)
       (λ q.
-      let same : off ≡ table_offset xs at t = rw q at e in
+      let same : off ≡ table_offset g t = rw q at e in
       record { keeps = both_left k c q; counted = rw same (both_right k c q); is = same })
       (λ q. absurd (z (rw q at e)))
 
-  pub source_zero : (off : ℕ) → off ≡ source_table xs at len kept t → off ≡ 0
-      → both (holds kept (be 3 xs (at + 10 + 11 * (t / 2)))) (counts (4 + t % 2) xs at len (table_offset xs at t)) ≡ false
+  pub source_zero : (off : ℕ) → off ≡ source_table g t → off ≡ 0
+      → both (holds g.kept (be 3 g.source (g.start + 10 + 11 * (t / 2)))) (counts (4 + t % 2) g.source g.start g.size (table_offset g t)) ≡ false
   unfolding source_table
   source_zero off e z =
-      let k = holds kept (be 3 xs (at + 10 + 11 * (t / 2))) in
-      let c = counts (4 + t % 2) xs at len (table_offset xs at t) in
+      let k = holds g.kept (be 3 g.source (g.start + 10 + 11 * (t / 2))) in
+      let c = counts (4 + t % 2) g.source g.start g.size (table_offset g t) in
       by_test (both k c ≡ false) (both k c)
       (λ q.
-      let same : off ≡ table_offset xs at t = rw q at e in
-      absurd (omega (arith, (counts_fits (4 + t % 2) xs at len (table_offset xs at t) (both_right k c q)).0)))
+      let same : off ≡ table_offset g t = rw q at e in
+      absurd (omega (arith, (counts_fits (4 + t % 2) g.source g.start g.size (table_offset g t) (both_right k c q)).0)))
       (λ q. q)
 
-  offset_even : t % 2 ≡ 0 → table_offset xs at t ≡ be 4 xs (at + 10 + 11 * (t / 2) + 3)
+  offset_even : t % 2 ≡ 0 → table_offset g t ≡ be 4 g.source (g.start + 10 + 11 * (t / 2) + 3)
   unfolding table_offset
-  offset_even e = ap (be 4 xs) (omega arith)
+  offset_even e = ap (be 4 g.source) (omega arith)
 
-  offset_odd : t % 2 ≡ 1 → table_offset xs at t ≡ be 4 xs (at + 10 + 11 * (t / 2) + 7)
+  offset_odd : t % 2 ≡ 1 → table_offset g t ≡ be 4 g.source (g.start + 10 + 11 * (t / 2) + 7)
   unfolding table_offset
-  offset_odd e = ap (be 4 xs) (omega arith)
+  offset_odd e = ap (be 4 g.source) (omega arith)
 
-  module _ (map requested : List ℕ) where
-    pub slot_default : (off : ℕ) → Found xs at len kept t off → t % 2 ≡ 0 → slot (job14 xs at len kept map requested) t ≡ new_default xs (at + off) kept
-    unfolding slot keeps_selector default_table
-    slot_default off f e =
-        let same : off ≡ be 4 xs (at + 10 + 11 * (t / 2) + 3) = f.is ∙ offset_even e in
-        let counted : counts 4 xs at len off ≡ true = rw e at f.counted in
-        rw (f.keeps, eq-eqb (t % 2) 0 e, ← same, counted)
+  pub slot_default : (off : ℕ) → Found g t off → t % 2 ≡ 0 → slot g t ≡ new_default g.source (g.start + off) g.kept
+  unfolding slot keeps_selector default_table
+  slot_default off f e =
+      let same : off ≡ be 4 g.source (g.start + 10 + 11 * (t / 2) + 3) = f.is ∙ offset_even e in
+      let counted : counts 4 g.source g.start g.size off ≡ true = rw e at f.counted in
+      rw (f.keeps, eq-eqb (t % 2) 0 e, ← same, counted)
 
-    pub slot_non_default : (off : ℕ) → Found xs at len kept t off → t % 2 ≡ 1 → slot (job14 xs at len kept map requested) t ≡ new_non_default xs (at + off) kept map requested
-    unfolding slot keeps_selector non_default_table
-    slot_non_default off f e =
-        let same : off ≡ be 4 xs (at + 10 + 11 * (t / 2) + 7) = f.is ∙ offset_odd e in
-        let counted : counts 5 xs at len off ≡ true = rw e at f.counted in
-        rw (f.keeps, ne_eqb (t % 2) 0 (λ z. omega (arith, e, z)), ← same, counted)
+  pub slot_non_default : (off : ℕ) → Found g t off → t % 2 ≡ 1 → slot g t ≡ new_non_default g.source (g.start + off) g.kept g.glyphs g.requested
+  unfolding slot keeps_selector non_default_table
+  slot_non_default off f e =
+      let same : off ≡ be 4 g.source (g.start + 10 + 11 * (t / 2) + 7) = f.is ∙ offset_odd e in
+      let counted : counts 5 g.source g.start g.size off ≡ true = rw e at f.counted in
+      rw (f.keeps, ne_eqb (t % 2) 0 (λ z. omega (arith, e, z)), ← same, counted)
 
-    -- a table that does not count gives none
-    slot_uncounted : counts (4 + t % 2) xs at len (table_offset xs at t) ≡ false → slot (job14 xs at len kept map requested) t ≡ []
-    unfolding slot keeps_selector default_table non_default_table
-    slot_uncounted u =
-        let whole : Type 0 = slot (job14 xs at len kept map requested) t ≡ [] in
-        by_test whole (holds kept (be 3 xs (at + 10 + 11 * (t / 2))))
-        (λ k. by_test whole (eqb (t % 2) 0)
-        (λ q.
-        let e = eqb-true (t % 2) 0 q in
-        let none : counts 4 xs at len (be 4 xs (at + 10 + 11 * (t / 2) + 3)) ≡ false = rw (e, offset_even e) at u in
-        rw (k, q, none))
-        (λ q.
-        let e : t % 2 ≡ 1 = omega (arith, eqb-false (t % 2) 0 q) in
-        let none : counts 5 xs at len (be 4 xs (at + 10 + 11 * (t / 2) + 7)) ≡ false = rw (e, offset_odd e) at u in
-        rw (k, q, none)))
-        (λ k. rw k)
+  -- a table that does not count gives none
+  slot_uncounted : counts (4 + t % 2) g.source g.start g.size (table_offset g t) ≡ false → slot g t ≡ []
+  unfolding slot keeps_selector default_table non_default_table
+  slot_uncounted u =
+      let whole : Type 0 = slot g t ≡ [] in
+      by_test whole (holds g.kept (be 3 g.source (g.start + 10 + 11 * (t / 2))))
+      (λ k. by_test whole (eqb (t % 2) 0)
+      (λ q.
+      let e = eqb-true (t % 2) 0 q in
+      let none : counts 4 g.source g.start g.size (be 4 g.source (g.start + 10 + 11 * (t / 2) + 3)) ≡ false = rw (e, offset_even e) at u in
+      rw (k, q, none))
+      (λ q.
+      let e : t % 2 ≡ 1 = omega (arith, eqb-false (t % 2) 0 q) in
+      let none : counts 5 g.source g.start g.size (be 4 g.source (g.start + 10 + 11 * (t / 2) + 7)) ≡ false = rw (e, offset_odd e) at u in
+      rw (k, q, none)))
+      (λ k. rw k)
 
-    slot_dropped : holds kept (be 3 xs (at + 10 + 11 * (t / 2))) ≡ false → slot (job14 xs at len kept map requested) t ≡ []
-    unfolding slot keeps_selector
-    slot_dropped k = rw k
+  slot_dropped : holds g.kept (be 3 g.source (g.start + 10 + 11 * (t / 2))) ≡ false → slot g t ≡ []
+  unfolding slot keeps_selector
+  slot_dropped k = rw k
 
-    pub slot_none : (off : ℕ) → off ≡ source_table xs at len kept t → off ≡ 0 → slot (job14 xs at len kept map requested) t ≡ []
-    slot_none off e z =
-        let k = holds kept (be 3 xs (at + 10 + 11 * (t / 2))) in
-        by_test (slot (job14 xs at len kept map requested) t ≡ []) k
-        (λ p. slot_uncounted (rw p at (source_zero off e z)))
-        slot_dropped
+  pub slot_none : (off : ℕ) → off ≡ source_table g t → off ≡ 0 → slot g t ≡ []
+  slot_none off e z =
+      let k = holds g.kept (be 3 g.source (g.start + 10 + 11 * (t / 2))) in
+      by_test (slot g t ≡ []) k
+      (λ p. slot_uncounted (rw p at (source_zero off e z)))
+      slot_dropped
 
 -- ---- what the code asks of a table it found, and what it makes of it
 
-module _ (xs : List ℕ) (at len : ℕ) (kept requested : List ℕ) (t off : ℕ) (r : Readable xs at len kept requested) (s : SourceOffset xs at len kept t off) where
+module _ (g : Job14) (t off : ℕ) (r : ReadableJob g) (s : SourceOffset g t off) where
   odd_one : (t % 2 ≡ 0 → ⊥) → t % 2 ≡ 1
   odd_one h = omega arith
 
   module _ (z : off ≡ 0 → ⊥) where
-    here : Found xs at len kept t off
-    here = found xs at len kept t off s.is z
+    here : Found g t off
+    here = found g t off s.is z
 
-    pub lent_default : (flags : List ℕ) → Numbered xs at kept flags t → t % 2 ≡ 0 → DefaultLent xs (at + off) kept flags
+    pub lent_default : (flags : List ℕ) → Numbered g flags t → t % 2 ≡ 0 → DefaultLent g.source (g.start + off) g.kept flags
     lent_default flags n e =
-        let c : counts 4 xs at len off ≡ true = rw e at here.counted in
-        record { head = counts_head 4 xs at len off r.inside c; inside = counts_inside 4 xs at len off r.inside c; rises = r.kept_rises; few = r.kept_few; beside = n.beside }
+        let c : counts 4 g.source g.start g.size off ≡ true = rw e at here.counted in
+        record { head = counts_head 4 g.source g.start g.size off r.inside c; inside = counts_inside 4 g.source g.start g.size off r.inside c; rises = r.kept_rises; few = r.kept_few; beside = n.beside }
 
-    pub lent_non_default : (t % 2 ≡ 0 → ⊥) → NonDefaultLent xs (at + off) kept requested
+    pub lent_non_default : (t % 2 ≡ 0 → ⊥) → NonDefaultLent g.source (g.start + off) g.kept g.requested
     lent_non_default h =
         let e = odd_one h in
-        let c : counts 5 xs at len off ≡ true = rw e at here.counted in
-        record { head = counts_head 5 xs at len off r.inside c; inside = counts_inside 5 xs at len off r.inside c; kept_rises = r.kept_rises; requested_rises = r.requested_rises }
+        let c : counts 5 g.source g.start g.size off ≡ true = rw e at here.counted in
+        record { head = counts_head 5 g.source g.start g.size off r.inside c; inside = counts_inside 5 g.source g.start g.size off r.inside c; kept_rises = r.kept_rises; requested_rises = r.requested_rises }
 
-  module _ (map : List ℕ) where
-    abbrev g : Job14
-    g = job14 xs at len kept map requested
+  none : off ≡ 0 → slot g t ≡ []
+  none z = slot_none g t off s.is z
 
-    none : off ≡ 0 → slot g t ≡ []
-    none z = slot_none xs at len kept t map requested off s.is z
+  default_is : (off ≡ 0 → ⊥) → t % 2 ≡ 0 → slot g t ≡ new_default g.source (g.start + off) g.kept
+  default_is z e = slot_default g t off (here z) e
 
-    default_is : (off ≡ 0 → ⊥) → t % 2 ≡ 0 → slot g t ≡ new_default xs (at + off) kept
-    default_is z e = slot_default xs at len kept t map requested off (here z) e
+  non_default_is : (off ≡ 0 → ⊥) → (t % 2 ≡ 0 → ⊥) → slot g t ≡ new_non_default g.source (g.start + off) g.kept g.glyphs g.requested
+  non_default_is z h = slot_non_default g t off (here z) (odd_one h)
 
-    non_default_is : (off ≡ 0 → ⊥) → (t % 2 ≡ 0 → ⊥) → slot g t ≡ new_non_default xs (at + off) kept map requested
-    non_default_is z h = slot_non_default xs at len kept t map requested off (here z) (odd_one h)
+  pub size_none : off ≡ 0 → SlotLength g t 0
+  size_none z = record { is = rw (none z); below = omega arith }
 
-    pub size_none : off ≡ 0 → SlotLength g t 0
-    size_none z = record { is = rw (none z); below = omega arith }
+  pub size_default : (n : ℕ) → (off ≡ 0 → ⊥) → t % 2 ≡ 0 → n ≡ length (new_default g.source (g.start + off) g.kept) → SlotLength g t n
+  size_default n z e d = record { is = rw (default_is z e) d; below = omega (arith, d, length_default g.source (g.start + off) g.kept, r.kept_few) }
 
-    pub size_default : (n : ℕ) → (off ≡ 0 → ⊥) → t % 2 ≡ 0 → n ≡ length (new_default xs (at + off) kept) → SlotLength g t n
-    size_default n z e d = record { is = rw (default_is z e) d; below = omega (arith, d, length_default xs (at + off) kept, r.kept_few) }
+  pub size_non_default : (n : ℕ) → (off ≡ 0 → ⊥) → (t % 2 ≡ 0 → ⊥) → n ≡ length (new_non_default g.source (g.start + off) g.kept g.glyphs g.requested) → SlotLength g t n
+  size_non_default n z h d =
+      record { is = rw (non_default_is z h) d; below = omega (arith, d, length_non_default g.source (g.start + off) g.kept g.glyphs g.requested, (lent_non_default z h).inside, r.small) }
 
-    pub size_non_default : (n : ℕ) → (off ≡ 0 → ⊥) → (t % 2 ≡ 0 → ⊥) → n ≡ length (new_non_default xs (at + off) kept map requested) → SlotLength g t n
-    size_non_default n z h d =
-        record { is = rw (non_default_is z h) d; below = omega (arith, d, length_non_default xs (at + off) kept map requested, (lent_non_default z h).inside, r.small) }
+  pub sum_none : off ≡ 0 → 0 ≡ checksum (4 + t % 2) (slot g t)
+  unfolding checksum gathered
+  sum_none z = rw (none z)
 
-    pub sum_none : off ≡ 0 → 0 ≡ checksum (4 + t % 2) (slot g t)
-    unfolding checksum gathered
-    sum_none z = rw (none z)
+  pub sum_default : (n : ℕ) → (off ≡ 0 → ⊥) → t % 2 ≡ 0 → n ≡ checksum 4 (new_default g.source (g.start + off) g.kept) → n ≡ checksum (4 + t % 2) (slot g t)
+  sum_default n z e d = rw (default_is z e, e) d
 
-    pub sum_default : (n : ℕ) → (off ≡ 0 → ⊥) → t % 2 ≡ 0 → n ≡ checksum 4 (new_default xs (at + off) kept) → n ≡ checksum (4 + t % 2) (slot g t)
-    sum_default n z e d = rw (default_is z e, e) d
+  pub sum_non_default : (n : ℕ) → (off ≡ 0 → ⊥) → (t % 2 ≡ 0 → ⊥) → n ≡ checksum 5 (new_non_default g.source (g.start + off) g.kept g.glyphs g.requested) → n ≡ checksum (4 + t % 2) (slot g t)
+  sum_non_default n z h d = rw (non_default_is z h, odd_one h) d
 
-    pub sum_non_default : (n : ℕ) → (off ≡ 0 → ⊥) → (t % 2 ≡ 0 → ⊥) → n ≡ checksum 5 (new_non_default xs (at + off) kept map requested) → n ≡ checksum (4 + t % 2) (slot g t)
-    sum_non_default n z h d = rw (non_default_is z h, odd_one h) d
+  pub bad_none : off ≡ 0 → false ≡ bad_slot g t
+  unfolding bad_slot keeps_selector bad_record
+  bad_none z =
+      by_test (false ≡ bad_slot g t) (eqb (t % 2) 0)
+      (λ q. rw q)
+      (λ q.
+      let odd : t % 2 ≡ 1 = odd_one (eqb-false (t % 2) 0 q) in
+      let h = holds g.kept (be 3 g.source (g.start + 10 + 11 * (t / 2))) in
+      let o = be 4 g.source (g.start + 10 + 11 * (t / 2) + 7) in
+      let no : both h (counts 5 g.source g.start g.size o) ≡ false = rw (odd, offset_odd g t odd) at (source_zero g t off s.is z) in
+      rw q (sym (both_none h (counts 5 g.source g.start g.size o) (bad_mapping g.source (g.start + o) g.kept g.glyphs g.requested) no)))
 
-    pub bad_none : off ≡ 0 → false ≡ bad_slot g t
-    unfolding bad_slot keeps_selector bad_record
-    bad_none z =
-        by_test (false ≡ bad_slot g t) (eqb (t % 2) 0)
-        (λ q. rw q)
-        (λ q.
-        let odd : t % 2 ≡ 1 = odd_one (eqb-false (t % 2) 0 q) in
-        let h = holds kept (be 3 xs (at + 10 + 11 * (t / 2))) in
-        let o = be 4 xs (at + 10 + 11 * (t / 2) + 7) in
-        let no : both h (counts 5 xs at len o) ≡ false = rw (odd, offset_odd xs at len kept t odd) at (source_zero xs at len kept t off s.is z) in
-        rw q (sym (both_none h (counts 5 xs at len o) (bad_mapping xs (at + o) kept map requested) no)))
+  pub bad_default : t % 2 ≡ 0 → false ≡ bad_slot g t
+  unfolding bad_slot
+  bad_default e = rw (eq-eqb (t % 2) 0 e)
 
-    pub bad_default : t % 2 ≡ 0 → false ≡ bad_slot g t
-    unfolding bad_slot
-    bad_default e = rw (eq-eqb (t % 2) 0 e)
+  pub bad_non_default : (b : Bool) → (off ≡ 0 → ⊥) → (t % 2 ≡ 0 → ⊥) → b ≡ bad_mapping g.source (g.start + off) g.kept g.glyphs g.requested → b ≡ bad_slot g t
+  unfolding bad_slot keeps_selector bad_record
+  bad_non_default b z h e =
+      let odd = odd_one h in
+      let place : off ≡ be 4 g.source (g.start + 10 + 11 * (t / 2) + 7) = (here z).is ∙ offset_odd g t odd in
+      let counted : counts 5 g.source g.start g.size off ≡ true = rw odd at (here z).counted in
+      rw (ne_eqb (t % 2) 0 h, (here z).keeps, ← place, counted) e
 
-    pub bad_non_default : (b : Bool) → (off ≡ 0 → ⊥) → (t % 2 ≡ 0 → ⊥) → b ≡ bad_mapping xs (at + off) kept map requested → b ≡ bad_slot g t
-    unfolding bad_slot keeps_selector bad_record
-    bad_non_default b z h e =
-        let odd = odd_one h in
-        let place : off ≡ be 4 xs (at + 10 + 11 * (t / 2) + 7) = (here z).is ∙ offset_odd xs at len kept t odd in
-        let counted : counts 5 xs at len off ≡ true = rw odd at (here z).counted in
-        rw (ne_eqb (t % 2) 0 h, (here z).keeps, ← place, counted) e
+  module _ (out : List ℕ) (to : ℕ) where
+    pub copy_none : off ≡ 0 → out ≡ sets out to (slot g t)
+    copy_none z = rw (none z)
 
-    module _ (out : List ℕ) (to : ℕ) where
-      pub copy_none : off ≡ 0 → out ≡ sets out to (slot g t)
-      copy_none z = rw (none z)
+    pub room_default : (off ≡ 0 → ⊥) → t % 2 ≡ 0 → to + length (slot g t) ≤ length out → to + length (new_default g.source (g.start + off) g.kept) ≤ length out
+    room_default z e h = rw (default_is z e) at h
 
-      pub room_default : (off ≡ 0 → ⊥) → t % 2 ≡ 0 → to + length (slot g t) ≤ length out → to + length (new_default xs (at + off) kept) ≤ length out
-      room_default z e h = rw (default_is z e) at h
+    pub copy_default : (off ≡ 0 → ⊥) → t % 2 ≡ 0 → (fin : List ℕ) → fin ≡ sets out to (new_default g.source (g.start + off) g.kept) → fin ≡ sets out to (slot g t)
+    copy_default z e fin d = rw (default_is z e) d
 
-      pub copy_default : (off ≡ 0 → ⊥) → t % 2 ≡ 0 → (fin : List ℕ) → fin ≡ sets out to (new_default xs (at + off) kept) → fin ≡ sets out to (slot g t)
-      copy_default z e fin d = rw (default_is z e) d
+    pub room_non_default : (off ≡ 0 → ⊥) → (t % 2 ≡ 0 → ⊥) → to + length (slot g t) ≤ length out → to + length (new_non_default g.source (g.start + off) g.kept g.glyphs g.requested) ≤ length out
+    room_non_default z e h = rw (non_default_is z e) at h
 
-      pub room_non_default : (off ≡ 0 → ⊥) → (t % 2 ≡ 0 → ⊥) → to + length (slot g t) ≤ length out → to + length (new_non_default xs (at + off) kept map requested) ≤ length out
-      room_non_default z e h = rw (non_default_is z e) at h
-
-      pub copy_non_default : (off ≡ 0 → ⊥) → (t % 2 ≡ 0 → ⊥) → (fin : List ℕ) → fin ≡ sets out to (new_non_default xs (at + off) kept map requested) → fin ≡ sets out to (slot g t)
-      copy_non_default z e fin d = rw (non_default_is z e) d
+    pub copy_non_default : (off ≡ 0 → ⊥) → (t % 2 ≡ 0 → ⊥) → (fin : List ℕ) → fin ≡ sets out to (new_non_default g.source (g.start + off) g.kept g.glyphs g.requested) → fin ≡ sets out to (slot g t)
+    copy_non_default z e fin d = rw (non_default_is z e) d
 
 pub ruleset lents = (lent_default, lent_non_default)
 
@@ -258,116 +253,112 @@ pub ruleset copies = (copy_none, copy_default, copy_non_default)
 -- ---- two tables
 
 -- tables of one sort from one place of the source
-module _ (xs : List ℕ) (at len : ℕ) (kept map requested : List ℕ) (i j p : ℕ) (r : Readable xs at len kept requested) (s : SourceOffset xs at len kept i p) (u : SourceOffset xs at len kept j p) (e : i % 2 ≡ j % 2) where
-  pub slot_like : slot (job14 xs at len kept map requested) i ≡ slot (job14 xs at len kept map requested) j
+module _ (g : Job14) (i j p : ℕ) (r : ReadableJob g) (s : SourceOffset g i p) (u : SourceOffset g j p) (e : i % 2 ≡ j % 2) where
+  pub slot_like : slot g i ≡ slot g j
   slot_like =
-      let like : Type 0 = slot (job14 xs at len kept map requested) i ≡ slot (job14 xs at len kept map requested) j in
+      let like : Type 0 = slot g i ≡ slot g j in
       by_test like (eqb p 0)
       (λ n.
       let z = eqb-true p 0 n in
-      none xs at len kept requested i p r s map z ∙ sym (none xs at len kept requested j p r u map z))
+      none g i p r s z ∙ sym (none g j p r u z))
       (λ n.
       let z = eqb-false p 0 n in
       by_test like (eqb (i % 2) 0)
       (λ q.
       let d = eqb-true (i % 2) 0 q in
-      default_is xs at len kept requested i p r s map z d ∙ sym (default_is xs at len kept requested j p r u map z (sym e ∙ d)))
+      default_is g i p r s z d ∙ sym (default_is g j p r u z (sym e ∙ d)))
       (λ q.
       let d = eqb-false (i % 2) 0 q in
-      non_default_is xs at len kept requested i p r s map z d ∙ sym (non_default_is xs at len kept requested j p r u map z (λ w. d (e ∙ w)))))
+      non_default_is g i p r s z d ∙ sym (non_default_is g j p r u z (λ w. d (e ∙ w)))))
 
-  pub bad_like : bad_slot (job14 xs at len kept map requested) i ≡ bad_slot (job14 xs at len kept map requested) j
+  pub bad_like : bad_slot g i ≡ bad_slot g j
   bad_like =
-      let like : Type 0 = bad_slot (job14 xs at len kept map requested) i ≡ bad_slot (job14 xs at len kept map requested) j in
+      let like : Type 0 = bad_slot g i ≡ bad_slot g j in
       by_test like (eqb p 0)
       (λ n.
       let z = eqb-true p 0 n in
-      sym (bad_none xs at len kept requested i p r s map z) ∙ bad_none xs at len kept requested j p r u map z)
+      sym (bad_none g i p r s z) ∙ bad_none g j p r u z)
       (λ n.
       let z = eqb-false p 0 n in
       by_test like (eqb (i % 2) 0)
       (λ q.
       let d = eqb-true (i % 2) 0 q in
-      sym (bad_default xs at len kept requested i p r s map d) ∙ bad_default xs at len kept requested j p r u map (sym e ∙ d))
+      sym (bad_default g i p r s d) ∙ bad_default g j p r u (sym e ∙ d))
       (λ q.
       let d = eqb-false (i % 2) 0 q in
-      sym (bad_non_default xs at len kept requested i p r s map (bad_mapping xs (at + p) kept map requested) z d refl)
-      ∙ bad_non_default xs at len kept requested j p r u map (bad_mapping xs (at + p) kept map requested) z (λ w. d (e ∙ w)) refl))
+      sym (bad_non_default g i p r s (bad_mapping g.source (g.start + p) g.kept g.glyphs g.requested) z d refl)
+      ∙ bad_non_default g j p r u (bad_mapping g.source (g.start + p) g.kept g.glyphs g.requested) z (λ w. d (e ∙ w)) refl))
 
-module _ (xs : List ℕ) (at len : ℕ) (kept map requested : List ℕ) (t off : ℕ) (s : SourceOffset xs at len kept t off) where
+module _ (g : Job14) (t off : ℕ) (s : SourceOffset g t off) where
   -- a table that is there has its source
-  pub source_there : 0 < length (slot (job14 xs at len kept map requested) t) → off ≡ 0 → ⊥
+  pub source_there : 0 < length (slot g t) → off ≡ 0 → ⊥
   source_there h z =
-      let none = slot_none xs at len kept t map requested off s.is z in
+      let none = slot_none g t off s.is z in
       let short = rw none at h in
       omega (arith, short)
 
-module _ (xs : List ℕ) (at len : ℕ) (kept map requested : List ℕ) (r : Readable xs at len kept requested) where
-  abbrev h : Job14
-  h = job14 xs at len kept map requested
-
-  there_found : (t : ℕ) → 0 < length (slot h t) → Found xs at len kept t (source_table xs at len kept t)
+module _ (g : Job14) (r : ReadableJob g) where
+  there_found : (t : ℕ) → 0 < length (slot g t) → Found g t (source_table g t)
   there_found t l =
-      found xs at len kept t (source_table xs at len kept t) refl
+      found g t (source_table g t) refl
       (λ z.
-      let none = slot_none xs at len kept t map requested (source_table xs at len kept t) refl z in
+      let none = slot_none g t (source_table g t) refl z in
       let short = rw none at l in
       omega (arith, short))
 
-  unlike : (i j : ℕ) → 0 < length (slot h i) → 0 < length (slot h j) → i % 2 ≡ 0 → j % 2 ≡ 1 → slot h i ≡ slot h j → ⊥
+  unlike : (i j : ℕ) → 0 < length (slot g i) → 0 < length (slot g j) → i % 2 ≡ 0 → j % 2 ≡ 1 → slot g i ≡ slot g j → ⊥
   unlike i j a b e d same =
-      let p = source_table xs at len kept i in
-      let q = source_table xs at len kept j in
+      let p = source_table g i in
+      let q = source_table g j in
       let f = there_found j b in
-      let c : counts 5 xs at len q ≡ true = rw d at f.counted in
-      let first : slot h i ≡ new_default xs (at + p) kept = slot_default xs at len kept i map requested p (there_found i a) e in
-      let second : slot h j ≡ new_non_default xs (at + q) kept map requested = slot_non_default xs at len kept j map requested q f d in
-      tables_apart xs (at + p) (at + q) kept map requested (omega (arith, r.kept_few)) (omega (arith, counts_inside 5 xs at len q r.inside c, r.small)) (rw first at a) (sym first ∙ same ∙ second)
+      let c : counts 5 g.source g.start g.size q ≡ true = rw d at f.counted in
+      let first : slot g i ≡ new_default g.source (g.start + p) g.kept = slot_default g i p (there_found i a) e in
+      let second : slot g j ≡ new_non_default g.source (g.start + q) g.kept g.glyphs g.requested = slot_non_default g j q f d in
+      tables_apart g.source (g.start + p) (g.start + q) g.kept g.glyphs g.requested (omega (arith, r.kept_few)) (omega (arith, counts_inside 5 g.source g.start g.size q r.inside c, r.small)) (rw first at a) (sym first ∙ same ∙ second)
 
   -- tables of unlike sort are not equal
-  pub same_unlike : (i j : ℕ) → BothThere h i j → (i % 2 ≡ j % 2 → ⊥) → false ≡ eq_list (slot h i) (slot h j)
+  pub same_unlike : (i j : ℕ) → BothThere g i j → (i % 2 ≡ j % 2 → ⊥) → false ≡ eq_list (slot g i) (slot g j)
   same_unlike i j b n =
-      by_test (false ≡ eq_list (slot h i) (slot h j)) (eq_list (slot h i) (slot h j))
+      by_test (false ≡ eq_list (slot g i) (slot g j)) (eq_list (slot g i) (slot g j))
       (λ q.
-      let same = eq_true (slot h i) (slot h j) q in
+      let same = eq_true (slot g i) (slot g j) q in
       absurd (by_leb ⊥ (i % 2) 0
       (λ l. unlike i j b.one b.other (omega arith) (omega arith) same)
       (λ l. unlike j i b.other b.one (omega arith) (omega arith) (sym same))))
       (λ q. sym q)
 
-module _ (xs : List ℕ) (at len : ℕ) (kept map requested : List ℕ) (i j p q : ℕ) (r : Readable xs at len kept requested)
-    (b : BothThere (job14 xs at len kept map requested) i j) (s : SourceOffset xs at len kept i p) (u : SourceOffset xs at len kept j q) where
+module _ (g : Job14) (i j p q : ℕ) (r : ReadableJob g) (b : BothThere g i j) (s : SourceOffset g i p) (u : SourceOffset g j q) where
   one_there : p ≡ 0 → ⊥
-  one_there = source_there xs at len kept map requested i p s b.one
+  one_there = source_there g i p s b.one
 
   other_there : q ≡ 0 → ⊥
-  other_there = source_there xs at len kept map requested j q u b.other
+  other_there = source_there g j q u b.other
 
-  pub one_default : (first : List ℕ) → Numbered xs at kept first i → i % 2 ≡ 0 → DefaultLent xs (at + p) kept first
-  one_default first m z = lent_default xs at len kept requested i p r s one_there first m z
+  pub one_default : (first : List ℕ) → Numbered g first i → i % 2 ≡ 0 → DefaultLent g.source (g.start + p) g.kept first
+  one_default first m z = lent_default g i p r s one_there first m z
 
-  pub other_default : (second : List ℕ) → Numbered xs at kept second j → i % 2 ≡ j % 2 → i % 2 ≡ 0 → DefaultLent xs (at + q) kept second
-  other_default second n e z = lent_default xs at len kept requested j q r u other_there second n (omega (arith, e, z))
+  pub other_default : (second : List ℕ) → Numbered g second j → i % 2 ≡ j % 2 → i % 2 ≡ 0 → DefaultLent g.source (g.start + q) g.kept second
+  other_default second n e z = lent_default g j q r u other_there second n (omega (arith, e, z))
 
-  pub one_non_default : (i % 2 ≡ 0 → ⊥) → NonDefaultLent xs (at + p) kept requested
-  one_non_default z = lent_non_default xs at len kept requested i p r s one_there z
+  pub one_non_default : (i % 2 ≡ 0 → ⊥) → NonDefaultLent g.source (g.start + p) g.kept g.requested
+  one_non_default z = lent_non_default g i p r s one_there z
 
-  pub other_non_default : i % 2 ≡ j % 2 → (i % 2 ≡ 0 → ⊥) → NonDefaultLent xs (at + q) kept requested
-  other_non_default e z = lent_non_default xs at len kept requested j q r u other_there (λ n. z (e ∙ n))
+  pub other_non_default : i % 2 ≡ j % 2 → (i % 2 ≡ 0 → ⊥) → NonDefaultLent g.source (g.start + q) g.kept g.requested
+  other_non_default e z = lent_non_default g j q r u other_there (λ n. z (e ∙ n))
 
   -- tables of one sort from one place
-  pub same_place : i % 2 ≡ j % 2 → p ≡ q → true ≡ eq_list (slot (job14 xs at len kept map requested) i) (slot (job14 xs at len kept map requested) j)
-  same_place e d = rw (slot_like xs at len kept map requested i j q r (rw d at s) u e) (sym (eq_refl (slot (job14 xs at len kept map requested) j)))
+  pub same_place : i % 2 ≡ j % 2 → p ≡ q → true ≡ eq_list (slot g i) (slot g j)
+  same_place e d = rw (slot_like g i j q r (rw d at s) u e) (sym (eq_refl (slot g j)))
 
   module _ (c : Bool) where
-    pub same_default_is : i % 2 ≡ j % 2 → i % 2 ≡ 0 → c ≡ eq_list (new_default xs (at + p) kept) (new_default xs (at + q) kept)
-        → c ≡ eq_list (slot (job14 xs at len kept map requested) i) (slot (job14 xs at len kept map requested) j)
+    pub same_default_is : i % 2 ≡ j % 2 → i % 2 ≡ 0 → c ≡ eq_list (new_default g.source (g.start + p) g.kept) (new_default g.source (g.start + q) g.kept)
+        → c ≡ eq_list (slot g i) (slot g j)
     same_default_is e z h =
-        rw (default_is xs at len kept requested i p r s map one_there z, default_is xs at len kept requested j q r u map other_there (sym e ∙ z)) h
+        rw (default_is g i p r s one_there z, default_is g j q r u other_there (sym e ∙ z)) h
 
-    pub same_non_default_is : i % 2 ≡ j % 2 → (i % 2 ≡ 0 → ⊥) → c ≡ eq_list (new_non_default xs (at + p) kept map requested) (new_non_default xs (at + q) kept map requested)
-        → c ≡ eq_list (slot (job14 xs at len kept map requested) i) (slot (job14 xs at len kept map requested) j)
+    pub same_non_default_is : i % 2 ≡ j % 2 → (i % 2 ≡ 0 → ⊥) → c ≡ eq_list (new_non_default g.source (g.start + p) g.kept g.glyphs g.requested) (new_non_default g.source (g.start + q) g.kept g.glyphs g.requested)
+        → c ≡ eq_list (slot g i) (slot g j)
     same_non_default_is e z h =
-        rw (non_default_is xs at len kept requested i p r s map one_there z, non_default_is xs at len kept requested j q r u map other_there (λ n. z (e ∙ n))) h
+        rw (non_default_is g i p r s one_there z, non_default_is g j q r u other_there (λ n. z (e ∙ n))) h
 
 pub ruleset sames = (same_unlike, same_place, same_default_is, same_non_default_is)

@@ -19,8 +19,8 @@ use Rattle.number.specs.BigEndian.{be, Num}
 use Rattle.number.proofs.BigEndianLaws.{length-enc}
 use Rattle.format14.specs.SelectorRecords.{used_records, record_at, header14_with, Distances}
 use Rattle.format14.proofs.SelectorRecordsLaws.{records_size}
-use Rattle.format14.specs.Selectors.{Job14, job14, names_missing}
-use Rattle.format14.specs.ByNumber.{slot, Readable}
+use Rattle.format14.specs.Selectors.{Job14, selector_records, names_missing}
+use Rattle.format14.specs.ByNumber.{slot, ReadableJob}
 use Rattle.format14.specs.declared.Outcome14.{Outcome14}
 use Rattle.format14.specs.declared.Outcome14.TheVariants.{Refused8, Empty, Length}
 use Rattle.format14.specs.Format14.{Row, rows, written_tables, length_of14, row_bytes, header14, format14, uvs_offset, size_of14, outcome14, length_in}
@@ -76,20 +76,17 @@ module _ (xs : List ℕ) (at total : ℕ) (ends : List ℕ) (n : ℕ) (u : Num 4
 
 -- ---- from the distances of the tables
 
-module _ (xs : List ℕ) (at len : ℕ) (kept map requested ends : List ℕ) (r : Readable xs at len kept requested) where
-  abbrev g : Job14
-  g = job14 xs at len kept map requested
-
+module _ (g : Job14) (ends : List ℕ) (r : ReadableJob g) where
   abbrev selectors : List ℕ
-  selectors = used_records ends (be 4 xs (at + 6))
+  selectors = used_records ends (selector_records g)
 
   abbrev last : List ℕ
-  last = concat (written_from (slot g) (2 * be 4 xs (at + 6)) 0)
+  last = concat (written_from (slot g) (2 * selector_records g) 0)
 
   short : length_of14 (rows g) < 2147483648
   short = rows_short g (record { few = r.few; short = omega (arith, r.inside, r.small); kept_few = r.kept_few })
 
-  module _ (e : Ends (slot g) (2 * be 4 xs (at + 6)) ends) where
+  module _ (e : Ends (slot g) (2 * selector_records g) ends) where
     count_rows : length selectors ≡ length (rows g)
     count_rows = length-rows g ends e
 
@@ -100,7 +97,7 @@ module _ (xs : List ℕ) (at len : ℕ) (kept map requested ends : List ℕ) (r 
 
     -- ---- the outcome, from the number of records that have a table
 
-    module _ (n count tail : ℕ) (refused : Bool) (u : Num 4 xs (at + 6) n) (c : count ≡ length (used_records ends n)) (t : Total (slot g) (2 * be 4 xs (at + 6)) tail) (b : refused ≡ names_missing g) where
+    module _ (n count tail : ℕ) (refused : Bool) (u : Num 4 g.source (g.start + 6) n) (c : count ≡ length (used_records ends n)) (t : Total (slot g) (2 * selector_records g) tail) (b : refused ≡ names_missing g) where
       count_is : count ≡ length (rows g)
       count_is = rw u.is at c ∙ count_rows
 
@@ -133,14 +130,14 @@ module _ (xs : List ℕ) (at len : ℕ) (kept map requested ends : List ℕ) (r 
       sum = total_rows ∙ sym t
 
       -- every distance lies inside
-      pub distances : Distances (be 4 xs (at + 6)) total ends
+      pub distances : Distances (selector_records g) total ends
       distances = record {
         room = e.room;
-        inside = λ k l. rw (e.each k l) (omega (arith, behind_le (slot g k) (written_from (slot g) (2 * be 4 xs (at + 6)) 0), sum));
+        inside = λ k l. rw (e.each k l) (omega (arith, behind_le (slot g k) (written_from (slot g) (2 * selector_records g) 0), sum));
         fits = omega (arith, t, short);
       }
 
-      bytes_are : header14_with total (length selectors) ++ (flat (record_at xs at total ends) selectors ++ last) ≡ format14 (rows g)
+      bytes_are : header14_with total (length selectors) ++ (flat (record_at g.source g.start total ends) selectors ++ last) ≡ format14 (rows g)
       unfolding format14 header14_with
       bytes_are =
           let records = flat_rows g ends e in
@@ -152,15 +149,15 @@ module _ (xs : List ℕ) (at len : ℕ) (kept map requested ends : List ℕ) (r 
         pub records_room : place + 10 + 11 * length selectors ≤ length out
         records_room = omega (arith, sum)
 
-        module _ (mid : List ℕ) (e₁ : mid ≡ sets out place (header14_with total (length selectors) ++ flat (record_at xs at total ends) selectors)) where
-          pub tables_stop : Stops (slot g) (2 * be 4 xs (at + 6)) (place + total) mid
+        module _ (mid : List ℕ) (e₁ : mid ≡ sets out place (header14_with total (length selectors) ++ flat (record_at g.source g.start total ends) selectors)) where
+          pub tables_stop : Stops (slot g) (2 * selector_records g) (place + total) mid
           tables_stop = record { room = omega (arith, sum); within = rw (e₁, length-sets) room }
 
           pub whole : (fin : List ℕ) → fin ≡ ends_at (place + total) mid last → fin ≡ sets out place (format14 (rows g))
           whole fin e₂ =
               let hs = header14_with total (length selectors) in
-              let rs = flat (record_at xs at total ends) selectors in
-              let size : length (hs ++ rs) ≡ 10 + 11 * length selectors = length_front xs at total ends (be 4 xs (at + 6)) in
+              let rs = flat (record_at g.source g.start total ends) selectors in
+              let size : length (hs ++ rs) ≡ 10 + 11 * length selectors = length_front g.source g.start total ends (selector_records g) in
               let there : place + total - length last ≡ place + length (hs ++ rs) = omega (arith, size, sum) in
               e₂ ∙ rw (there, e₁, sets-append out place (hs ++ rs) last, append_assoc hs rs last) (ap (sets out place) bytes_are)
 

@@ -7,3 +7,4 @@ pub mod Ends
 pub mod SelectorRecords
 pub mod Selectors
 pub mod Streams
+pub mod Lent

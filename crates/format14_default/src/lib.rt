@@ -1,4 +1,5 @@
-// The new default table of a selector record: which kept points its ranges cover, how long it is, a checksum, and its bytes.
+// The new default table of a selector record: which kept points its ranges cover, how long it is, a checksum, and its bytes. That its table can be read
+// and each kept point has a flag is one fact with flags that are changed, so that it stands in the clauses and not in a struct.
 #![tactic(auto)]
 
 ghost use Rattle.std.specs.Prelude.{◌≡◌, ◌+◌, ◌<◌, ◌≤◌, length};
@@ -38,7 +39,7 @@ fn mark_range(
     s: &[u8],
     place: usize,
     kept: &[u32],
-    places: &[u32],
+    places: Option<&[u32; PLACES]>,
     near: usize,
 ) -> usize
     requires place_in_bounds { place + 4 ≤ length s.now }
@@ -47,54 +48,43 @@ fn mark_range(
 {
     let start = number::u24_at(s, place);
     let end = start + number::byte_at(s, place + 3);
-    if places.len() == 0 {
-        return lists_flags::mark_points_near(flags, kept, start, end, near);
+    match places {
+        Some(places) => mark_points_by(flags, kept, start, end, places, near),
+        None => lists_flags::mark_points_near(flags, kept, start, end, near),
     }
-    mark_points_by(flags, kept, start, end, places, near)
 }
 
 // What cover does, by places noted of the kept points, or with none.
-fn cover_by(flags: &mut [u8], s: &[u8], p: usize, kept: &[u32], places: &[u32])
+fn cover_by(flags: &mut [u8], s: &[u8], p: usize, kept: &[u32], places: Option<&[u32; PLACES]>)
     requires { DefaultLent s.now p kept.now flags.old }
     ensures { flags.new ≡ sets flags.old 0 (flagged (covered_by s.now p) kept.now) }
 {
     lists_flags::clear(flags, kept.len());
-    let r = number::u32_at(s, p) as usize;
-    let mut i = 0;
     let mut near = 0;
-    while i < r {
+    for i in 0..number::u32_at(s, p) as usize {
         near = mark_range(flags, s, p + 4 + 4 * i, kept, places, near);
-        i += 1;
     }
 }
 
-// The same, with the places of the kept points noted first.
-fn cover_many(flags: &mut [u8], s: &[u8], p: usize, kept: &[u32])
-    requires { DefaultLent s.now p kept.now flags.old }
-    ensures { flags.new ≡ sets flags.old 0 (flagged (covered_by s.now p) kept.now) }
-{
-    let mut places = [0u32; PLACES];
-    lists_places::note_places(&mut places, kept);
-    cover_by(flags, s, p, kept, &places)
-}
-
-// Sets each kept point's flag: 1 if some range of the table at p covers it, else 0.
+// Sets each kept point's flag: 1 if some range of the table at p covers it, else 0. Places of the kept points are noted first where the table is large.
 pub fn cover(flags: &mut [u8], s: &[u8], p: usize, kept: &[u32])
     requires { DefaultLent s.now p kept.now flags.old }
     ensures { flags.new ≡ sets flags.old 0 (flagged (covered_by s.now p) kept.now) }
 {
     if number::u32_at(s, p) as usize >= MANY {
-        return cover_many(flags, s, p, kept);
+        let mut places = [0u32; PLACES];
+        lists_places::note_places(&mut places, kept);
+        cover_by(flags, s, p, kept, Some(&places));
+        return;
     }
-    let none = [0u32; 0];
-    cover_by(flags, s, p, kept, &none)
+    cover_by(flags, s, p, kept, None)
 }
 
 // A checksum with one record more: its start in three bytes, how many points follow in one.
 fn mix_range(sum: u64, start: u32, additional: u32) -> u64
     ensures { result ≡ mixed 4 sum (range_bytes (start, additional)) }
 {
-    let record = start as u64 % 16777216 * 256 + additional as u64 % 256;
+    let record = u64::from(start) % 16777216 * 256 + u64::from(additional) % 256;
     format14_uvs::mix(sum, record)
 }
 
@@ -105,7 +95,7 @@ struct RecordsMeasure {
     sum: u64,
 }
 
-// Both in one walk.
+// Both in one walk. A `for` cannot jump, and the points of a record are passed over at once.
 fn measure_ranges(kept: &[u32], flags: &[u8], most: u32) -> RecordsMeasure
     requires { KeptFlagged kept.now flags.now }
     ensures range_count { RangeCount most kept.now flags.now result.count }
@@ -120,7 +110,7 @@ fn measure_ranges(kept: &[u32], flags: &[u8], most: u32) -> RecordsMeasure
         i = r.next;
         n += 1;
     }
-    RecordsMeasure { count: n, sum: sum }
+    RecordsMeasure { count: n, sum }
 }
 
 // Writes one record.
@@ -132,7 +122,7 @@ fn copy_range(out: &mut [u8], to: usize, start: u32, additional: u32)
     out[to + 3] = (additional % 256) as u8;
 }
 
-// Writes every record; how many.
+// Writes every record; how many. A `for` cannot jump, as above.
 fn copy_ranges(out: &mut [u8], to: usize, kept: &[u32], flags: &[u8], most: u32) -> usize
     requires kept_flagged { KeptFlagged kept.now flags.now }
     requires room { to + length (flat range_bytes (records most kept.now flags.now 0)) ≤ length out.old }
@@ -175,14 +165,13 @@ pub fn measure_default(s: &[u8], p: usize, kept: &[u32], flags: &mut [u8]) -> De
 {
     let most = prepare(flags, s, p, kept);
     let ranges = measure_ranges(kept, flags, most);
-    if ranges.count == 0 {
-        return DefaultMeasure {
-            size: 0,
-            sum: ranges.sum,
-        };
-    }
+    let size = if ranges.count == 0 {
+        0
+    } else {
+        4 + 4 * ranges.count
+    };
     DefaultMeasure {
-        size: 4 + 4 * ranges.count,
+        size,
         sum: ranges.sum,
     }
 }

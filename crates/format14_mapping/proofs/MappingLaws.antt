@@ -1,15 +1,14 @@
 -- Which glyph a map gives, and which it misses; mappings measured and written: the code's answers are the definitions'.
-use Prim.Native.Nat.{ℕ, ◌+◌, ◌-◌, ◌*◌, ◌^◌, ◌<◌, ◌≤◌}
+use Prim.Native.Nat.{ℕ, ◌+◌, ◌-◌, ◌*◌, ◌<◌, ◌≤◌}
 use mathlib.Core.Path.{◌≡◌, refl, sym, ap, ◌∙◌}
 use mathlib.Core.List.{List}
 use mathlib.Core.Bool.{Bool, true, false}
 use native.Mathlib.Omega.{arith}
-use borrow.Author.Tests.{lt-leb, le-leb, eq-eqb, ne_eqb}
+use borrow.Author.Tests.{lt-leb, le-leb}
 use lib.ListN.{length, get_or, length-append, get_or-eq_default}
 use lib.Dec.{eqb}
 use lib.Seq.{sets}
 use Rattle.laws.proofs.ChoiceLaws.{by_leb}
-use Rattle.laws.proofs.ReadLaws.{get_or_in}
 use Rattle.number.specs.BigEndian.{be, enc, put, Num}
 use Rattle.number.proofs.BigEndianLaws.{put_after, length-enc}
 use Rattle.number.specs.Limits.{absent}
@@ -25,12 +24,6 @@ use Rattle.format14_uvs.specs.NonDefault.{mapping, mapping_at, mapping_bytes, ke
 use Rattle.format14_mapping.specs.Lent.{MappingCount, NewNumber}
 
 -- ---- the map
-
-pub new_in : (map : List ℕ) (g : ℕ) → g < length map → get_or map g 0 < 256 ^ 2 → NewNumber map g (get_or map g 0)
-new_in map g h l = record { is = get_or_in map g 0 absent h; below = l }
-
-pub new_past : (map : List ℕ) (g : ℕ) → length map ≤ g → NewNumber map g absent
-new_past map g h = record { is = sym (get_or-eq_default map absent h); below = omega arith }
 
 -- a glyph is missing exactly where the map's entry, taken as absent past the end, is absent
 pub missing-absent : (map : List ℕ) (g : ℕ) → missing map g ≡ eqb (get_or map g absent) absent
@@ -86,25 +79,17 @@ mapping_size map m = rw (length-append, length-enc 3 m.0, length-enc 2 (get_or m
 
 -- one mapping more
 module _ (xs : List ℕ) (place : ℕ) (map : List ℕ) (g n : ℕ) (hg : Num 2 xs (place + 3) g) (hn : NewNumber map g n) (bad : Bool) where
-  pub bad_one : n ≡ absent → true ≡ either bad (missing map (mapping xs place).1)
-  bad_one e = rw (missing-absent map (be 2 xs (place + 3)), ← hg.is, ← hn.is, eq-eqb n absent e) (sym (any bad))
-    where
-      any : (b : Bool) → either b true ≡ true
-      any true = refl
-      any false = refl
+  pub bad_new : bad ≡ false → eqb n absent ≡ either bad (missing map (mapping xs place).1)
+  bad_new e = rw (e, missing-absent map (be 2 xs (place + 3)), ← hg.is, ← hn.is)
 
-  pub bad_same : (n ≡ absent → ⊥) → bad ≡ either bad (missing map (mapping xs place).1)
-  bad_same e = rw (missing-absent map (be 2 xs (place + 3)), ← hg.is, ← hn.is, ne_eqb n absent e) (sym (either_none bad))
-
-pub ruleset bads = (bad_one, bad_same)
-
-pub mix_is : (xs : List ℕ) (place : ℕ) (map : List ℕ) (sum c g n r : ℕ) → Num 3 xs place c → Num 2 xs (place + 3) g → NewNumber map g n
-    → r ≡ stirred sum (c * 65536 + n) → r ≡ mixed 5 sum (mapping_bytes map (mapping xs place))
+-- v and w are the code point and the new glyph as they are mixed in
+pub mix_is : (xs : List ℕ) (place : ℕ) (map : List ℕ) (sum c g n v w r : ℕ) → Num 3 xs place c → Num 2 xs (place + 3) g → NewNumber map g n → v ≡ c → w ≡ n
+    → r ≡ stirred sum (v * 65536 + w) → r ≡ mixed 5 sum (mapping_bytes map (mapping xs place))
 unfolding gathered enc
-mix_is xs place map sum c g n r hc hg hn e =
+mix_is xs place map sum c g n v w r hc hg hn d u e =
     let below = hc.below in
     let low = hn.below in
-    rw (← hc.is, ← hg.is, ← hn.is) (e ∙ ap (stirred sum) (omega (arith, below, low)))
+    rw (← hc.is, ← hg.is, ← hn.is) (e ∙ ap (stirred sum) (omega (arith, below, low, d, u)))
 
 -- the length from the count
 module _ (xs : List ℕ) (p : ℕ) (kept map requested : List ℕ) (m i k : ℕ) (n : Num 4 xs p m) (l : Counting (keeps_mapping kept requested) (mapping_at xs p) m i k) (h : m ≤ i) where
@@ -128,11 +113,11 @@ sum_all xs p kept map requested m i sum n l h =
 -- ---- one mapping written
 
 -- the code point, then the new glyph behind it
-pub copy_is : (xs : List ℕ) (place : ℕ) (map out mid fin : List ℕ) (to c g n : ℕ) → Num 3 xs place c → Num 2 xs (place + 3) g → NewNumber map g n
-    → mid ≡ put 3 out to c → fin ≡ put 2 mid (to + 3) n → fin ≡ sets out to (mapping_bytes map (mapping xs place))
+pub copy_is : (xs : List ℕ) (place : ℕ) (map out mid fin : List ℕ) (to c g n w : ℕ) → Num 3 xs place c → Num 2 xs (place + 3) g → NewNumber map g n → w ≡ n
+    → mid ≡ put 3 out to c → fin ≡ put 2 mid (to + 3) w → fin ≡ sets out to (mapping_bytes map (mapping xs place))
 unfolding put
-copy_is xs place map out mid fin to c g n hc hg hn e d =
-    rw (d, e, ← hc.is, ← hg.is, ← hn.is) (put_after 2 out to (enc 3 c) n (to + 3) (rw (length-enc 3 c)))
+copy_is xs place map out mid fin to c g n w hc hg hn u e d =
+    rw (d, e, u, ← hc.is, ← hg.is, ← hn.is) (put_after 2 out to (enc 3 c) n (to + 3) (rw (length-enc 3 c)))
 
 -- ---- all that stay, written one after the other
 

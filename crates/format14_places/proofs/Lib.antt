@@ -1,3 +1,3 @@
+pub mod EqualLaws
 pub mod MeasuringLaws
 pub mod PlacingLaws
-pub mod EqualLaws

@@ -14,8 +14,8 @@ use Rattle.laws.proofs.ChoiceLaws.{by_leb, if_lt_lem, else_lt}
 use Rattle.laws.proofs.FirstLaws.{first_from, first_holds, first_none}
 use Rattle.laws.proofs.EqListLaws.{eq_true}
 use Rattle.laws.proofs.LastsLaws.{length-concat}
-use Rattle.number.specs.BigEndian.{be}
-use Rattle.format14.specs.ByNumber.{table_max, Readable, Lengths}
+use Rattle.format14.specs.Selectors.{Job14, selector_records}
+use Rattle.format14.specs.ByNumber.{slot, SlotLength, ReadableJob, table_max}
 use Rattle.format14.specs.Ends.{from, written_from, later_equal, Ends, Total}
 use Rattle.format14.proofs.SlotsLaws.{from_apart, written_missing, written_again, written_new, behind_missing, behind_new, among-from}
 
@@ -33,7 +33,11 @@ placing_start f m k ends s h =
     let e : m - k ≡ 0 = omega arith in
     record { within = omega arith; room = h; total = rw e; few = omega arith; each = λ j a b. absurd (omega arith) }
 
-module _ (f : ℕ → List ℕ) (m k : ℕ) (ends : List ℕ) (tail : ℕ) (ls : List ℕ) (p : Placing f m k ends tail) (q : Lengths f m ls) (h : 0 < k) where
+-- size is the length of the last table that is not placed
+module _ (g : Job14) (m k : ℕ) (ends : List ℕ) (tail size : ℕ) (p : Placing (slot g) m k ends tail) (q : SlotLength g (k - 1) size) (h : 0 < k) where
+  abbrev f : ℕ → List ℕ
+  f = slot g
+
   -- the distance of one more table
   each_more : (v : ℕ) → v ≡ behind (f (k - 1)) (written_from f m 0) → (j : ℕ) → k - 1 ≤ j → j < m → get_or (set ends (k - 1) v) j 0 ≡ behind (f j) (written_from f m 0)
   each_more v e j a b =
@@ -49,12 +53,9 @@ module _ (f : ℕ → List ℕ) (m k : ℕ) (ends : List ℕ) (tail : ℕ) (ls :
   inside : k - 1 < m
   inside = omega (arith, p.within)
 
-  length_is : get_or ls (k - 1) 0 ≡ length (f (k - 1))
-  length_is = q.each (k - 1) inside
-
-  pub placing_missing : get_or ls (k - 1) 0 ≡ 0 → Placing f m (k - 1) (set ends (k - 1) 0) tail
+  pub placing_missing : size ≡ 0 → Placing f m (k - 1) (set ends (k - 1) 0) tail
   placing_missing z =
-      let none : length (f (k - 1)) ≡ 0 = sym length_is ∙ z in
+      let none : length (f (k - 1)) ≡ 0 = sym q.is ∙ z in
       let same = rw back at (written_missing f m (k - 1) inside none) in
       record {
         within = omega (arith, p.within);
@@ -65,9 +66,9 @@ module _ (f : ℕ → List ℕ) (m k : ℕ) (ends : List ℕ) (tail : ℕ) (ls :
       }
 
   -- j is the code's own answer for the next equal table
-  module _ (j : ℕ) (e : j ≡ later_equal f m (k - 1)) (z : get_or ls (k - 1) 0 ≡ 0 → ⊥) where
+  module _ (j : ℕ) (e : j ≡ later_equal f m (k - 1)) (z : size ≡ 0 → ⊥) where
     some_length : 0 < length (f (k - 1))
-    some_length = omega (arith, length_is)
+    some_length = omega (arith, q.is)
 
     placing_again : j < m → Placing f m (k - 1) (set ends (k - 1) (get_or ends j 0)) tail
     placing_again l =
@@ -85,7 +86,7 @@ module _ (f : ℕ → List ℕ) (m k : ℕ) (ends : List ℕ) (tail : ℕ) (ls :
           each = each_more (get_or ends j 0) (p.each j (omega (arith, e)) l ∙ ap (λ u. behind u (written_from f m 0)) (sym equal));
         }
 
-    placing_new : m ≤ j → Placing f m (k - 1) (set ends (k - 1) (tail + get_or ls (k - 1) 0)) (tail + get_or ls (k - 1) 0)
+    placing_new : m ≤ j → Placing f m (k - 1) (set ends (k - 1) (tail + size)) (tail + size)
     placing_new l =
         let t : ℕ → Bool = λ i. eq_list (f (k - 1)) (f i) in
         let no = first_none t (m - (k - 1 + 1)) (k - 1 + 1) (omega (arith, e, p.within)) in
@@ -95,23 +96,23 @@ module _ (f : ℕ → List ℕ) (m k : ℕ) (ends : List ℕ) (tail : ℕ) (ls :
         record {
           within = omega (arith, p.within);
           room = rw length-set p.room;
-          total = rw (fresh, length-concat (f (k - 1)) (written_from f m k)) (omega (arith, p.total, length_is));
-          few = omega (arith, p.few, p.within, q.small (k - 1) inside);
-          each = each_more (tail + get_or ls (k - 1) 0) (omega (arith, far, p.total, length_is));
+          total = rw (fresh, length-concat (f (k - 1)) (written_from f m k)) (omega (arith, p.total, q.is));
+          few = omega (arith, p.few, p.within, q.below);
+          each = each_more (tail + size) (omega (arith, far, p.total, q.is));
         }
 
     -- the number n of tables, the distance and the length are the code's own
-    pub placing_there : (n : ℕ) (next : List ℕ) (r : ℕ) → n ≡ m → next ≡ set ends (k - 1) (if_lt j n (get_or ends j 0) (tail + get_or ls (k - 1) 0)) → r ≡ if_lt j n tail (tail + get_or ls (k - 1) 0)
+    pub placing_there : (n : ℕ) (next : List ℕ) (r : ℕ) → n ≡ m → next ≡ set ends (k - 1) (if_lt j n (get_or ends j 0) (tail + size)) → r ≡ if_lt j n tail (tail + size)
         → Placing f m (k - 1) next r
     placing_there n next r s d w =
         by_leb (Placing f m (k - 1) next r) m j
         (λ l.
-        let u = d ∙ sym (ap (set ends (k - 1)) (else_lt j n (get_or ends j 0) (tail + get_or ls (k - 1) 0) (omega arith) refl)) in
-        let v = w ∙ sym (else_lt j n tail (tail + get_or ls (k - 1) 0) (omega arith) refl) in
+        let u = d ∙ sym (ap (set ends (k - 1)) (else_lt j n (get_or ends j 0) (tail + size) (omega arith) refl)) in
+        let v = w ∙ sym (else_lt j n tail (tail + size) (omega arith) refl) in
         rw (u, v) (placing_new l))
         (λ l.
-        let u = d ∙ sym (ap (set ends (k - 1)) (if_lt_lem j n (get_or ends j 0) (tail + get_or ls (k - 1) 0) (omega arith) refl)) in
-        let v = w ∙ sym (if_lt_lem j n tail (tail + get_or ls (k - 1) 0) (omega arith) refl) in
+        let u = d ∙ sym (ap (set ends (k - 1)) (if_lt_lem j n (get_or ends j 0) (tail + size) (omega arith) refl)) in
+        let v = w ∙ sym (if_lt_lem j n tail (tail + size) (omega arith) refl) in
         rw (u, v) (placing_again l))
 
 -- at the end every table has its distance
@@ -123,9 +124,6 @@ placing_total f m k ends tail p h =
     let z : k ≡ 0 = omega arith in
     record { is = rw z at p.total; few = omega (arith, p.few) }
 
-pub ruleset placing = (placing_start, placing_missing, placing_there)
-
 -- sums stay small
-pub tail_fits : (f : ℕ → List ℕ) (xs : List ℕ) (at len : ℕ) (kept requested : List ℕ) (k : ℕ) (ends : List ℕ) (tail : ℕ) (ls : List ℕ) → Readable xs at len kept requested
-    → Placing f (2 * be 4 xs (at + 6)) k ends tail → Lengths f (2 * be 4 xs (at + 6)) ls → 0 < k → tail + get_or ls (k - 1) 0 < 2 ^ 64
-tail_fits f xs at len kept requested k ends tail ls r p q h = omega (arith, p.few, p.within, q.small (k - 1) (omega (arith, p.within)), r.few)
+pub tail_fits : (g : Job14) (k : ℕ) (ends : List ℕ) (tail size : ℕ) → ReadableJob g → Placing (slot g) (2 * selector_records g) k ends tail → SlotLength g (k - 1) size → 0 < k → tail + size < 2 ^ 64
+tail_fits g k ends tail size r p q h = omega (arith, p.few, p.within, q.below, r.few)

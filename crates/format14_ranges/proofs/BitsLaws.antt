@@ -1,14 +1,16 @@
--- The bit length of a number, found by doubling.
-use Prim.Native.Nat.{ℕ, zero, suc, ◌+◌, ◌*◌, ◌^◌, ◌<◌, ◌≤◌}
-use mathlib.Core.Path.{◌≡◌, refl}
-use mathlib.Core.Logic.{⊎_elim}
+-- The bit length of a number, from its leading zeros.
+use Prim.Native.Nat.{ℕ, zero, suc, ◌+◌, ◌-◌, ◌*◌, ◌^◌, ◌<◌, ◌≤◌}
+use mathlib.Core.Path.{◌≡◌, sym, ◌∙◌}
 use native.Mathlib.Nat.{pow-suc, mul-le-mul_right}
-use native.Mathlib.Numerals.{add-one}
+use Rattle.std.proofs.Math.Nat.{pow-le-pow_right}
+use Rattle.std.proofs.lemmas.Nat.{leading_length}
+use lib.Count.{count_leading_zeros}
 use native.Mathlib.Omega.{arith}
 use lib.Dec.{ltb}
 use borrow.Author.Tests.{lt-ltb, le-ltb}
-use Rattle.laws.proofs.ChoiceLaws.{lt_or_le}
-use Rattle.laws.proofs.SearchLaws.{Looking, looking_start, looking_on, looking_found, looking_none}
+use Rattle.laws.proofs.ChoiceLaws.{by_leb}
+use Rattle.laws.specs.Search.{first}
+use Rattle.laws.proofs.FirstLaws.{first_is, first_past}
 use Rattle.format14_uvs.specs.Default.{bit_length, in_ranges}
 use Rattle.format14_ranges.specs.Stream.{most_of}
 use mathlib.Core.List.{List}
@@ -20,29 +22,26 @@ lt_power : (b : ℕ) → b < 2 ^ b
 lt_power zero = omega arith
 lt_power (suc b) = rw (pow-suc 2 b) (omega (arith, lt_power b))
 
-pub record Doubling (r b power : ℕ) : Type 0 where
-  pub is : power ≡ 2 ^ b
-  pub looking : Looking (λ b. ltb r (2 ^ b)) r b
+-- m bits hold r, and no fewer do
+pub bits_are : (r m : ℕ) → r < 2 ^ m → 2 ^ m ≤ 2 * r + 1 → m ≡ bit_length r
+unfolding bit_length
+bits_are r m above below =
+    let p : ℕ → Bool = λ b. ltb r (2 ^ b) in
+    let misses : (j : ℕ) → j < m → p j ≡ false = λ j h. le-ltb r (2 ^ j) (omega (arith, below, rw (pow-suc 2 j) at (pow-le-pow_right {n = 2} (omega arith) {i = suc j} {j = m} (omega arith)))) in
+    let low : m ≤ r = by_leb (m ≤ r) (suc r) m
+    (λ h. absurd (omega (arith, below, rw (pow-suc 2 r) at (pow-le-pow_right {n = 2} (omega arith) {i = suc r} {j = m} h), lt_power r)))
+    (λ h. omega arith) in
+    by_leb (m ≡ first p r 0) r m
+    (λ h.
+    let few : m ≡ r = omega (arith, h, low) in
+    few ∙ sym (first_past p r (λ j l. misses j (omega (arith, few, l)))))
+    (λ h. sym (first_is p r m (omega arith) (lt-ltb r (2 ^ m) above) misses))
 
-pub doubling_start : (r : ℕ) → Doubling r 0 1
-doubling_start r = record { is = refl; looking = looking_start (λ b. ltb r (2 ^ b)) r }
-
-module _ (r b power : ℕ) (d : Doubling r b power) where
-  pub doubling_less : power ≤ r → b < r
-  doubling_less h = omega (arith, lt_power b, d.is)
-
-  pub doubling_on : power ≤ r → Doubling r (b + 1) (power * 2)
-  doubling_on h = record {
-    is = rw (add-one b, pow-suc 2 b, ← d.is) (omega arith);
-    looking = looking_on d.looking (doubling_less h) (le-ltb r (2 ^ b) (rw d.is at h));
-  }
-
-  pub doubling_end : r < power → (b ≡ bit_length r) × (b ≤ r)
-  unfolding bit_length
-  doubling_end h = (
-    ⊎_elim (λ l. looking_found d.looking l (lt-ltb r (2 ^ b) (rw d.is at h))) (λ g. looking_none d.looking g) (lt_or_le b r),
-    d.looking.within,
-  )
+-- the bits below the zeros that a number of 32 bits begins with
+pub bits_left : (r : ℕ) → r < 2 ^ 32 → 32 - count_leading_zeros 32 r ≡ bit_length r
+bits_left r h =
+    let found = leading_length 32 r h in
+    omega (arith, found.1, bits_are r found.0 found.2 found.3)
 
 -- ---- ranges or single points
 

@@ -9,35 +9,28 @@ ghost use Rattle.format14_ranges.specs.Stream.{NextFlagged, FlaggedPlace, NextRa
 fn bit_length(r: u32) -> u64
     ensures { (result ≡ bit_length r) × (result < 4294967296) }
 {
-    let mut b = 0;
-    let mut power: u64 = 1;
-    while power <= r as u64 {
-        power *= 2;
-        b += 1;
-    }
-    b
+    u64::from(u32::BITS - r.leading_zeros())
 }
 
 // Whether c is the point after a record's last.
 fn follows(start: u32, additional: u32, c: u32) -> bool
     ensures { result ≡ eqb c (start + additional + 1) }
 {
-    c as u64 == start as u64 + additional as u64 + 1
+    u64::from(c) == u64::from(start) + u64::from(additional) + 1
 }
 
-// The first flagged place from i on, or the number of points.
+// The first flagged place from i on, or the number of points. Its clause is of points and flags, which every law of the walk reads, and not of
+// a search among numbers.
 pub fn next_point(kept: &[u32], flags: &[u8], i: usize) -> usize
     requires { (length kept.now ≤ length flags.now) × (i ≤ length kept.now) }
     ensures { NextFlagged kept.now flags.now i result }
 {
-    let mut j = i;
-    while j < kept.len() {
+    for j in i..kept.len() {
         if flags[j] != 0 {
             return j;
         }
-        j += 1;
     }
-    j
+    kept.len()
 }
 
 // How many points may follow a record's start: 255 where the table is written in ranges, else none.
@@ -45,7 +38,7 @@ pub fn most_additional(r: u32, kept: &[u32]) -> u32
     requires { length kept.now ≤ 131072 }
     ensures { result ≡ most_of r kept.now }
 {
-    if kept.len() as u64 * bit_length(r) < r as u64 {
+    if kept.len() as u64 * bit_length(r) < u64::from(r) {
         return 255;
     }
     0
@@ -58,7 +51,7 @@ pub struct UnicodeRange {
     pub next: usize,
 }
 
-// The record that starts at the flagged place i.
+// The record that starts at the flagged place i. A `for` cannot jump, and points without a flag are passed over at once.
 pub fn next_range(kept: &[u32], flags: &[u8], i: usize, most: u32) -> UnicodeRange
     requires { FlaggedPlace kept.now flags.now i }
     ensures { NextRange most kept.now flags.now i result.additional result.next }
@@ -66,25 +59,9 @@ pub fn next_range(kept: &[u32], flags: &[u8], i: usize, most: u32) -> UnicodeRan
     let start = kept[i];
     let mut additional = 0;
     let mut next = next_point(kept, flags, i + 1);
-    while next < kept.len() {
-        if additional == most {
-            return UnicodeRange {
-                additional: additional,
-                next: next,
-            };
-        }
-        if follows(start, additional, kept[next]) {
-            additional += 1;
-            next = next_point(kept, flags, next + 1);
-        } else {
-            return UnicodeRange {
-                additional: additional,
-                next: next,
-            };
-        }
+    while next < kept.len() && additional != most && follows(start, additional, kept[next]) {
+        additional += 1;
+        next = next_point(kept, flags, next + 1);
     }
-    UnicodeRange {
-        additional: additional,
-        next: next,
-    }
+    UnicodeRange { additional, next }
 }

@@ -41,8 +41,10 @@ module _ (xs : List ℕ) (p m : ℕ) (kept requested : List ℕ) (i : ℕ) where
       → NextStaying xs p m kept requested i j
   seeking_found j b s e y = record { low = s.low; within = s.within; same = s.same; stays = λ h. sym e ∙ y }
 
-  pub seeking_none : (j : ℕ) → Seeking xs p m kept requested i j → m ≤ j → NextStaying xs p m kept requested i j
-  seeking_none j s h = record { low = s.low; within = s.within; same = s.same; stays = λ l. absurd (omega arith) }
+  pub seeking_none : (j : ℕ) → Seeking xs p m kept requested i j → m ≤ j → NextStaying xs p m kept requested i m
+  seeking_none j s h =
+      let all : j ≡ m = omega (arith, s.within) in
+      record { low = omega (arith, s.low, all); within = omega arith; same = s.same ∙ ap (staying xs p m kept requested) all; stays = λ l. absurd (omega arith) }
 
 pub ruleset seeking = (seeking_start, seeking_on, seeking_found, seeking_none)
 

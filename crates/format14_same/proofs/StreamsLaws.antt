@@ -1,10 +1,10 @@
 -- Two default tables compared record by record.
 use Prim.Native.Nat.{ℕ, ◌+◌, ◌<◌, ◌≤◌}
-use mathlib.Core.Path.{◌≡◌, sym, ◌∙◌}
+use mathlib.Core.Path.{◌≡◌, refl, sym, ◌∙◌}
 use mathlib.Core.List.{List, ◌∷◌}
-use mathlib.Core.Bool.{Bool, true, false}
+use mathlib.Core.Bool.{Bool, true, false, ◌&&◌}
 use native.Mathlib.Omega.{arith}
-use borrow.Author.Tests.{eq-eqb, ne_eqb, le-leb, lt-leb}
+use borrow.Author.Tests.{le-leb, lt-leb}
 use lib.Dec.{eqb, leb}
 use lib.ListN.{length, get_or}
 use lib.Seq.{sets, length-sets}
@@ -34,13 +34,12 @@ module _ (a b c d : ℕ) (f : RangeFits a b) (g : RangeFits c d) where
       rw (eq_enc 3 a c (omega (arith, f.start_fits)) (omega (arith, g.start_fits)), eq_enc 1 b d (omega (arith, f.additional_fits)) (omega (arith, g.additional_fits)))
       (eq_append (enc 3 a) (enc 3 c) (enc 1 b) (enc 1 d) (length-enc 3 a ∙ sym (length-enc 3 c)))
 
-  pub range_not : (a ≡ c → ⊥) → false ≡ eq_list (range_bytes (a, b)) (range_bytes (c, d))
-  range_not e = rw (bytes, ne_eqb a c e)
-
-  pub range_more : a ≡ c → eqb b d ≡ eq_list (range_bytes (a, b)) (range_bytes (c, d))
-  range_more e = rw (bytes, eq-eqb a c e)
-
-pub ruleset range_rules = (range_not, range_more)
+  pub range_same : (eqb a c && eqb b d) ≡ eq_list (range_bytes (a, b)) (range_bytes (c, d))
+  range_same = rw bytes (joined (eqb a c) (eqb b d))
+    where
+      joined : (x y : Bool) → (x && y) ≡ pick x y false
+      joined true y = refl
+      joined false y = refl
 
 -- ---- two flaggings
 

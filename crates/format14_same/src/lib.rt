@@ -33,23 +33,15 @@ fn next_mapping(
     requires i_le_m { i ≤ m }
     ensures { NextStaying s.now p m kept.now requested.now i result.mapping }
 {
-    let mut j = i;
-    let mut place = near;
-    while j < m {
-        let found = format14_staying::keeps_mapping(s, p + 4 + 5 * j, kept, requested, place);
-        place = found.near;
+    let mut near = near;
+    for j in i..m {
+        let found = format14_staying::keeps_mapping(s, p + 4 + 5 * j, kept, requested, near);
+        near = found.near;
         if found.stays {
-            return Stop {
-                mapping: j,
-                near: place,
-            };
+            return Stop { mapping: j, near };
         }
-        j += 1;
     }
-    Stop {
-        mapping: j,
-        near: place,
-    }
+    Stop { mapping: m, near }
 }
 
 // Whether two mappings get the same bytes: the same code point, and new glyphs that are the same.
@@ -57,15 +49,16 @@ fn same_mapping(s: &[u8], a: usize, b: usize, map: &[u16]) -> bool
     requires { (a + 5 ≤ length s.now) × (b + 5 ≤ length s.now) }
     ensures { result ≡ eq_list (mapping_bytes map.now (mapping s.now a)) (mapping_bytes map.now (mapping s.now b)) }
 {
-    if number::u24_at(s, a) == number::u24_at(s, b) {
-        let first = format14_mapping::new_glyph(map, number::u16_at(s, a + 3));
-        let second = format14_mapping::new_glyph(map, number::u16_at(s, b + 3));
-        return first == second;
+    if number::u24_at(s, a) != number::u24_at(s, b) {
+        return false;
     }
-    false
+    let first = format14_mapping::new_glyph(map, number::u16_at(s, a + 3));
+    let second = format14_mapping::new_glyph(map, number::u16_at(s, b + 3));
+    first == second
 }
 
-// Whether the mappings that stay get the same bytes in both tables.
+// Whether the mappings that stay get the same bytes in both tables. Two tables of one source share the lists, so each is its place and its count beside them.
+// A `for` cannot jump, and mappings that do not stay are passed over at once.
 fn same_rows(
     s: &[u8],
     p: usize,
@@ -80,28 +73,19 @@ fn same_rows(
     requires mappings_lent_2 { MappingsLent s.now q n kept.now requested.now }
     ensures { result ≡ same_rows s.now kept.now map.now requested.now p m q n }
 {
-    let first = next_mapping(s, p, m, kept, requested, 0, 0);
-    let second = next_mapping(s, q, n, kept, requested, 0, 0);
-    let mut i = first.mapping;
-    let mut near = first.near;
-    let mut j = second.mapping;
-    let mut far = second.near;
-    while i < m {
-        if n <= j {
+    let mut one = next_mapping(s, p, m, kept, requested, 0, 0);
+    let mut other = next_mapping(s, q, n, kept, requested, 0, 0);
+    while one.mapping < m {
+        if n <= other.mapping {
             return false;
         }
-        if same_mapping(s, p + 4 + 5 * i, q + 4 + 5 * j, map) {
-            let a = next_mapping(s, p, m, kept, requested, i + 1, near);
-            let b = next_mapping(s, q, n, kept, requested, j + 1, far);
-            i = a.mapping;
-            near = a.near;
-            j = b.mapping;
-            far = b.near;
-        } else {
+        if !same_mapping(s, p + 4 + 5 * one.mapping, q + 4 + 5 * other.mapping, map) {
             return false;
         }
+        one = next_mapping(s, p, m, kept, requested, one.mapping + 1, one.near);
+        other = next_mapping(s, q, n, kept, requested, other.mapping + 1, other.near);
     }
-    n <= j
+    n <= other.mapping
 }
 
 // Whether the new non-default tables of those at p and q are equal.
@@ -128,13 +112,10 @@ fn same_range(start: u32, additional: u32, other: u32, more: u32) -> bool
     requires range_fits_2 { RangeFits other more }
     ensures { result ≡ eq_list (range_bytes (start, additional)) (range_bytes (other, more)) }
 {
-    if start == other {
-        return additional == more;
-    }
-    false
+    (start, additional) == (other, more)
 }
 
-// Whether the records of two flaggings of the points get the same bytes.
+// Whether the records of two flaggings of the points get the same bytes. A `for` cannot jump, and the points of a record are passed over at once.
 fn same_ranges(kept: &[u32], first: &[u8], most: u32, second: &[u8], limit: u32) -> bool
     requires flagging { Flagging kept.now first.now most }
     requires flagging_2 { Flagging kept.now second.now limit }
@@ -148,12 +129,11 @@ fn same_ranges(kept: &[u32], first: &[u8], most: u32, second: &[u8], limit: u32)
         }
         let a = format14_ranges::next_range(kept, first, i, most);
         let b = format14_ranges::next_range(kept, second, j, limit);
-        if same_range(kept[i], a.additional, kept[j], b.additional) {
-            i = a.next;
-            j = b.next;
-        } else {
+        if !same_range(kept[i], a.additional, kept[j], b.additional) {
             return false;
         }
+        i = a.next;
+        j = b.next;
     }
     kept.len() <= j
 }

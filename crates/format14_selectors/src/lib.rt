@@ -11,10 +11,7 @@ fn is_used(ends: &[usize], k: usize) -> bool
     requires { 2 * k + 1 < length ends.now }
     ensures { result ≡ used_at ends.now k }
 {
-    if ends[2 * k] > 0 {
-        return true;
-    }
-    ends[2 * k + 1] > 0
+    ends[2 * k] > 0 || ends[2 * k + 1] > 0
 }
 
 // How many of n records have a table.
@@ -23,12 +20,9 @@ pub fn count_records(ends: &[usize], n: usize) -> usize
     ensures value { result ≡ length (used_records ends.now n) }
     ensures upper_bound { result ≤ n }
 {
-    let mut k = 0;
     let mut count = 0;
-    while k < n {
-        let used = is_used(ends, k);
-        k += 1;
-        if used {
+    for k in 0..n {
+        if is_used(ends, k) {
             count += 1;
         }
     }
@@ -96,13 +90,9 @@ pub fn copy_records(
     ensures { out.new ≡ sets out.old to (flat (record_at s.now at total ends.now) (used_records ends.now n)) }
 {
     let mut place = to;
-    let mut k = 0;
-    while k < n {
-        let i = k;
-        let used = is_used(ends, k);
-        k += 1;
-        if used {
-            copy_record(out, place, s, at, total, ends, i);
+    for k in 0..n {
+        if is_used(ends, k) {
+            copy_record(out, place, s, at, total, ends, k);
             place += 11;
         }
     }

@@ -4,19 +4,21 @@
 ghost use Rattle.std.specs.Prelude.{◌≡◌, ◌+◌, ◌^◌, ◌<◌, ◌≤◌, eqb, length, get_or, set};
 ghost use Rattle.laws.specs.Choice.{both, if_lt};
 
-// Whether tables t and j are of one length and one checksum: others are not equal.
-pub fn alike(lengths: &[usize], sums: &[u64], t: usize, j: usize) -> bool
-    requires t_in_bounds { (t < length lengths.now) × (j < length lengths.now) }
-    requires t_in_bounds_2 { (t < length sums.now) × (j < length sums.now) }
-    ensures { result ≡ both (eqb (get_or lengths.now t 0) (get_or lengths.now j 0)) (eqb (get_or sums.now t 0) (get_or sums.now j 0)) }
+// What is found of a new table without writing it: how long it is, 0 where there is none, a checksum of its bytes, whether it brings refusal 8, and the
+// offset of its source. Length and checksum are promised of a table that brings refusal 8 too, so that no Err takes their place.
+#[derive(Clone, Copy)]
+pub struct Measure {
+    pub size: usize,
+    pub sum: u64,
+    pub bad: bool,
+    pub source: usize,
+}
+
+// Whether two tables are of one length and one checksum: others are not equal.
+pub fn alike(one: &Measure, other: &Measure) -> bool
+    ensures { result ≡ both (eqb one.now.size other.now.size) (eqb one.now.sum other.now.sum) }
 {
-    if lengths[t] != lengths[j] {
-        return false;
-    }
-    if sums[t] != sums[j] {
-        return false;
-    }
-    true
+    one.size == other.size && one.sum == other.sum
 }
 
 // Table k of m shares the distance of table j, the next that equals it; where j is none of them it stands before all later ones, which are `tail` long.

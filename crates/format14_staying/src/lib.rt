@@ -10,10 +10,8 @@ ghost use Rattle.format14_staying.specs.Staying.{MappingLent};
 
 // The place behind i where the point at i is below c, else i.
 fn step(kept: &[u32], c: u32, i: usize) -> usize {
-    if i < kept.len() {
-        if kept[i] < c {
-            return i + 1;
-        }
+    if i < kept.len() && kept[i] < c {
+        return i + 1;
     }
     i
 }
@@ -24,17 +22,15 @@ pub fn count_next(kept: &[u32], c: u32, near: usize) -> usize
     ensures { Bound kept.now c result }
 {
     let i = step(kept, c, near);
-    if i < kept.len() {
-        if c <= kept[i] {
-            if i == 0 {
-                return 0;
-            }
-            if kept[i - 1] < c {
-                return i;
-            }
+    if i < kept.len() && c <= kept[i] {
+        if i == 0 {
+            return 0;
+        }
+        if kept[i - 1] < c {
+            return i;
         }
     }
-    lists_marks::count_near(kept, c as u64, i)
+    lists_marks::count_near(kept, u64::from(c), i)
 }
 
 // Whether c is a kept point, where i of them are below it.
@@ -42,10 +38,7 @@ fn stands_at(kept: &[u32], c: u32, i: usize) -> bool
     requires { Rising kept.now × Bound kept.now c i }
     ensures { result ≡ holds kept.now c }
 {
-    if i < kept.len() {
-        return kept[i] == c;
-    }
-    false
+    i < kept.len() && kept[i] == c
 }
 
 // Whether the mapping at `place` stays, which has the code point c with i kept points below it.
@@ -57,10 +50,10 @@ pub fn stays_at(s: &[u8], place: usize, kept: &[u32], requested: &[u16], c: u32,
     if stands_at(kept, c, i) {
         return true;
     }
-    if requested.len() == 0 {
+    if requested.is_empty() {
         return false;
     }
-    lists_marks::member_glyph(requested, number::u16_at(s, place + 3) as u16)
+    lists_marks::member(requested, number::u16_at(s, place + 3) as u16)
 }
 
 // Whether a mapping stays, and how many kept points are below its code point, from where the next one is looked for.

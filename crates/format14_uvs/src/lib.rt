@@ -3,10 +3,10 @@
 
 ghost use Rattle.std.specs.Prelude.{◌≡◌, ◌+◌, ◌≤◌, length};
 ghost use Rattle.format14_uvs.specs.Checksum.{stirred};
-ghost use Rattle.format14_uvs.specs.Tables.{counts, counts_default, counts_non_default};
+ghost use Rattle.format14_uvs.specs.Tables.{counts};
 
-// A table of records of `size` bytes, `off` from the start of the subtable.
-fn counts(s: &[u8], at: usize, len: usize, off: u32, size: usize) -> bool
+// Whether a table counts that stands `off` from the start of the subtable and has records of `size` bytes: 4 in a default, 5 in a non-default one.
+pub fn counts(s: &[u8], at: usize, len: usize, off: u32, size: usize) -> bool
     requires { (at + len ≤ length s.now) × (size ≤ 5) }
     ensures { result ≡ counts size s.now at len off }
 {
@@ -19,20 +19,6 @@ fn counts(s: &[u8], at: usize, len: usize, off: u32, size: usize) -> bool
     }
     let records = number::u32_at(s, at + off) as usize;
     off + 4 + size * records <= len
-}
-
-pub fn counts_default(s: &[u8], at: usize, len: usize, off: u32) -> bool
-    requires { at + len ≤ length s.now }
-    ensures { result ≡ counts_default s.now at len off }
-{
-    counts(s, at, len, off, 4)
-}
-
-pub fn counts_non_default(s: &[u8], at: usize, len: usize, off: u32) -> bool
-    requires { at + len ≤ length s.now }
-    ensures { result ≡ counts_non_default s.now at len off }
-{
-    counts(s, at, len, off, 5)
 }
 
 // A checksum with one number more, which stands for a record.

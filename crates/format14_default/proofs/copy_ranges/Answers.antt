@@ -1,5 +1,4 @@
 -- What is left, written behind what is written, gives the whole.
-use Prim.Native.Nat.{◌-◌}
 use Rattle.format14_ranges.proofs.StreamLaws.{counted, written, written_room}
 use Rattle.format14_default.proofs.copy_ranges.Goals as goal
 

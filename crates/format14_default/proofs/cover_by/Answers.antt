@@ -1,7 +1,6 @@
 -- Marking the ranges still to come gives what marking all of them gives, and that flags every covered point.
 use borrow.Author.Rules.{rules}
 use native.Mathlib.Omega.{arith}
-use Prim.Native.Nat.{◌-◌}
 use Rattle.format14.proofs.CoverLaws.{covering}
 use Rattle.format14_default.proofs.cover_by.Goals as goal
 

@@ -1,9 +1,5 @@
-use Prim.Native.Nat.{◌-◌}
 use Rattle.format14.proofs.CoverLaws.{Covering}
 use Rattle.format14_default.proofs.cover_by.Given as goal
 
 abbrev pub invariant-loop-i : goal.invariant-loop-i
-invariant-loop-i l = Covering l.s l.p l.kept l.r l.initial.flags l.flags l.i
-
-abbrev pub decreases-loop-i : goal.decreases-loop-i
-decreases-loop-i l = l.r - l.i
+invariant-loop-i l = Covering l.s l.p l.kept l.i-end l.initial.flags l.flags l.i

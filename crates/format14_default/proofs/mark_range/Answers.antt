@@ -2,8 +2,8 @@
 use Rattle.format14.proofs.CoverLaws.{mark_is}
 use Rattle.format14_default.proofs.mark_range.Goals as goal
 
-pub returns-then-places-eq0 : goal.returns-then-places-eq0
-returns-then-places-eq0 c = mark_is _ _ _ _ _ _ _ c.u24_at-start.ensures c.byte_at.ensures c.mark_points_near.ensures.flags_after
+pub returns-in-None : goal.returns-in-None
+returns-in-None c = mark_is _ _ _ _ _ _ _ c.u24_at-start.ensures c.byte_at.ensures c.mark_points_near.ensures.flags_after
 
-pub returns : goal.returns
-returns c = mark_is _ _ _ _ _ _ _ c.u24_at-start.ensures c.byte_at.ensures c.mark_points_by.ensures
+pub returns-in-Some : goal.returns-in-Some
+returns-in-Some c = mark_is _ _ _ _ _ _ _ c.u24_at-start.ensures c.byte_at.ensures c.mark_points_by.ensures

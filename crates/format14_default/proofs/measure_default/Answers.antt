@@ -8,8 +8,8 @@ returns-then-ranges-eq0-clause-size_value c = search new_rules
 pub returns-then-ranges-eq0-clause-sum_value : goal.returns-then-ranges-eq0-clause-sum_value
 returns-then-ranges-eq0-clause-sum_value c = search sum_new
 
-pub returns-clause-size_value : goal.returns-clause-size_value
-returns-clause-size_value c = search new_rules
+pub returns-else-ranges-eq0-clause-size_value : goal.returns-else-ranges-eq0-clause-size_value
+returns-else-ranges-eq0-clause-size_value c = search new_rules
 
-pub returns-clause-sum_value : goal.returns-clause-sum_value
-returns-clause-sum_value c = search sum_new
+pub returns-else-ranges-eq0-clause-sum_value : goal.returns-else-ranges-eq0-clause-sum_value
+returns-else-ranges-eq0-clause-sum_value c = search sum_new

@@ -1,5 +1,4 @@
 -- Records passed and records still to come give the whole count and the whole checksum.
-use Prim.Native.Nat.{◌-◌}
 use Rattle.format14_ranges.proofs.StreamLaws.{counted, summed}
 use Rattle.format14_default.proofs.measure_ranges.Goals as goal
 

@@ -3,4 +3,4 @@ use Rattle.format14_ranges.proofs.StreamLaws.{mix_range_is}
 use Rattle.format14_default.proofs.mix_range.Goals as goal
 
 pub returns : goal.returns
-returns c = mix_range_is _ _ _ _ c.mix.ensures
+returns c = mix_range_is _ _ _ _ (rw (c.from.ensures, c.from-2.ensures) at c.mix.ensures)

@@ -1,5 +1,4 @@
 -- The mappings, then the count right before them; with none counted nothing is written.
-use borrow.Author.Rules.{rules}
 use Rattle.format14_uvs.proofs.TablesLaws.{writes}
 use Rattle.format14_uvs.specs.NonDefault.{new_non_default}
 use Rattle.format14_non_default.proofs.copy_non_default_uvs.Goals as goal
@@ -8,13 +7,9 @@ pub returns-then-out-to-lt4 : goal.returns-then-out-to-lt4
 unfolding new_non_default
 returns-then-out-to-lt4 c = search writes
 
-pub copy_mappings-n-requires-clause-non_default_lent : goal.copy_mappings-n-requires-clause-non_default_lent
+pub copy_mappings-n-requires : goal.copy_mappings-n-requires
 unfolding new_non_default
-copy_mappings-n-requires-clause-non_default_lent c = search rules
-
-pub copy_mappings-n-requires-clause-room : goal.copy_mappings-n-requires-clause-room
-unfolding new_non_default
-copy_mappings-n-requires-clause-room c = search writes
+copy_mappings-n-requires c = search writes
 
 pub returns-then-n-eq0 : goal.returns-then-n-eq0
 unfolding new_non_default

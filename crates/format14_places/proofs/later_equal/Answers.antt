@@ -8,8 +8,8 @@ use Rattle.format14_places.proofs.later_equal.Goals as goal
 pub loop-j-init : goal.loop-j-init
 loop-j-init c = (search (rules, seeking), search rules)
 
-pub returns-then-same : goal.returns-then-same
-returns-then-same c = search later_equals
+pub returns-then-equal_tables : goal.returns-then-equal_tables
+returns-then-equal_tables c = search later_equals
 
 pub loop-j-preserved : goal.loop-j-preserved
 loop-j-preserved c = (search seeking, omega arith)

@@ -1,13 +1,7 @@
--- A table from an earlier one's place has its length and checksum; another is measured.
-use borrow.Author.Rules.{rules}
-use Rattle.format14_places.proofs.MeasuringLaws.{size_like, sum_like, refusing, refused_bad, refused_good}
+-- A table from an earlier one's place is like it.
+use Rattle.format14.specs.Lent.{lent_job14}
+use Rattle.format14_places.proofs.MeasuringLaws.{measured_like}
 use Rattle.format14_places.proofs.measure_one.Goals as goal
 
-pub returns-then-u-t-clause-measured : goal.returns-then-u-t-clause-measured
-returns-then-u-t-clause-measured c = (search size_like, (search sum_like, search refusing))
-
-pub returns-then-table-clause-measured : goal.returns-then-table-clause-measured
-returns-then-table-clause-measured c = (search rules, (search rules, search (refused_bad, c.requires)))
-
-pub returns-clause-measured : goal.returns-clause-measured
-returns-clause-measured c = (search rules, (search rules, search (refused_good, c.requires)))
+pub returns-in-Some : goal.returns-in-Some
+returns-in-Some c = measured_like (lent_job14 c.args.job.now) _ _ _ _ c.args.job.now.readable c.source_table-off.ensures c.requires.measured c.in-Some.ensures

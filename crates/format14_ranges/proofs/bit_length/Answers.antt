@@ -1,17 +1,8 @@
--- The power is 2^b, and no smaller one exceeds r.
-use native.Mathlib.Omega.{arith}
-use Prim.Native.Nat.{◌-◌}
-use Rattle.format14_ranges.proofs.BitsLaws.{doubling_start, doubling_less, doubling_on, doubling_end}
+-- The bits below the leading zeros are those that hold the number.
+use Rattle.std.proofs.Common.{arith}
+use mathlib.Core.Path.{◌∙◌}
+use Rattle.format14_ranges.proofs.BitsLaws.{bits_left}
 use Rattle.format14_ranges.proofs.bit_length.Goals as goal
 
-pub loop-power-init : goal.loop-power-init
-loop-power-init c = doubling_start _
-
-pub loop-power-smaller : goal.loop-power-smaller
-loop-power-smaller c = omega (arith, doubling_less _ _ _ c.loop-power.invariant c.loop-power-test.true)
-
-pub loop-power-preserved : goal.loop-power-preserved
-loop-power-preserved c = search doubling_on
-
 pub returns : goal.returns
-returns c = let e = doubling_end _ _ _ c.loop-power.invariant c.loop-power-test.false in (e.0, omega (arith, e.1))
+returns c = (c.from.ensures ∙ bits_left c.args.r c.ranges.r.fits, omega (arith, c.from.ensures))

@@ -1,6 +1,5 @@
 -- Points without a flag do not count, so passing them by changes nothing.
 use borrow.Author.Rules.{rules}
-use Prim.Native.Nat.{◌-◌}
 use Rattle.format14_ranges.proofs.StreamLaws.{seeking}
 use Rattle.format14_ranges.proofs.next_point.Goals as goal
 

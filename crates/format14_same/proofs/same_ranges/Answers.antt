@@ -23,8 +23,8 @@ same_range-requires-clause-range_fits_2 c = search range_fits
 pub loop-i-preserved : goal.loop-i-preserved
 loop-i-preserved c = search pairing
 
-pub returns-else-same_range : goal.returns-else-same_range
-returns-else-same_range c = search pairing
+pub returns-then-not-same_range : goal.returns-then-not-same_range
+returns-then-not-same_range c = search pairing
 
 pub returns : goal.returns
 returns c = search pairing

@@ -12,8 +12,8 @@ same_default-requires c = let asked = c.requires in
     let second = c.source_table-q.ensures in
     let sort = c.if-i-j.false in
     let even = c.if-i-eq0.true in record {
-      default_lent = one_default _ _ _ _ _ _ _ _ _ _ asked.readable asked.both_there first second _ asked.numbered even;
-      default_lent_2 = other_default _ _ _ _ _ _ _ _ _ _ asked.readable asked.both_there first second _ asked.numbered_2 sort even;
+      default_lent = one_default _ _ _ _ _ c.args.job.now.readable asked.both_there first second _ asked.numbered even;
+      default_lent_2 = other_default _ _ _ _ _ c.args.job.now.readable asked.both_there first second _ asked.numbered_2 sort even;
       code_points = search rules;
     }
 
@@ -25,8 +25,8 @@ same_non_default-requires c = let asked = c.requires in
     let first = c.source_table-p.ensures in
     let second = c.source_table-q.ensures in
     let sort = c.if-i-j.false in record {
-      non_default_lent = one_non_default _ _ _ _ _ _ _ _ _ _ asked.readable asked.both_there first second c.if-i-eq0.false;
-      non_default_lent_2 = other_non_default _ _ _ _ _ _ _ _ _ _ asked.readable asked.both_there first second sort c.if-i-eq0.false;
+      non_default_lent = one_non_default _ _ _ _ _ c.args.job.now.readable asked.both_there first second c.if-i-eq0.false;
+      non_default_lent_2 = other_non_default _ _ _ _ _ c.args.job.now.readable asked.both_there first second sort c.if-i-eq0.false;
     }
 
 pub returns-then-i-eq0 : goal.returns-then-i-eq0

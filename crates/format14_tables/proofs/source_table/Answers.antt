@@ -2,11 +2,11 @@
 use Rattle.format14.proofs.ByNumberLaws.{source_rules}
 use Rattle.format14_tables.proofs.source_table.Goals as goal
 
-pub returns-then-counts_table : goal.returns-then-counts_table
-returns-then-counts_table c = search source_rules
+pub returns-then-counts : goal.returns-then-counts
+returns-then-counts c = search source_rules
 
-pub returns-else-counts_table : goal.returns-else-counts_table
-returns-else-counts_table c = search source_rules
+pub returns-else-counts : goal.returns-else-counts
+returns-else-counts c = search source_rules
 
 pub returns-else-member : goal.returns-else-member
 returns-else-member c = search source_rules
