@@ -1,4 +1,5 @@
 -- Both heads give of a result what the job lists: the first record of the result that leads to a format is the first of the source that made a table of it.
+use Rattle.std.specs.Prelude.{Option, Ok, Err}
 use Prim.Native.Nat.{ℕ, ◌<◌, ◌≤◌}
 use mathlib.Core.Path.{◌≡◌, refl, sym, ap, ◌∙◌}
 use mathlib.Core.List.{List}
@@ -16,9 +17,8 @@ use Rattle.source_header.specs.Header.{offset_of}
 use Rattle.source.specs.Kind.{kind_at, format_of}
 use Rattle.source_records.specs.Records.{leads_to, leads_to_format}
 use Rattle.plan_listing.specs.Job.{Job}
-use Rattle.heads_lookup.specs.declared.Found.{Found}
 use Rattle.heads_lookup.specs.Lookup.{lookup4, lookup12, glyph_of}
-use Rattle.heads.specs.declared.Printed.TheVariants.{Glyph, Refused}
+use Rattle.heads.specs.declared.HeadRefusal.TheVariants.{NothingReadable}
 use Rattle.heads.specs.Heads.{old_head, new_head}
 use Rattle.heads.proofs.HeadsLaws.{old_first, old_none, new_first, new_as_old}
 use Rattle.plan.specs.declared.Outcome.{Outcome}
@@ -34,7 +34,7 @@ use Rattle.result.specs.Result.{makes}
 use Rattle.cmap_answers.specs.Answers.{printed_by, old_answer, new_answer}
 
 -- a table that a record made, wherever it stands, has the record's format, and a lookup of that format gives the listed glyphs
-pub record Reads (format : ℕ) (look : List ℕ → ℕ → ℕ → Found) (j : Job) (os : List Outcome) : Type 0 where
+pub record Reads (format : ℕ) (look : List ℕ → ℕ → ℕ → Option ℕ) (j : Job) (os : List Outcome) : Type 0 where
   pub alike : (k : ℕ) (xs : List ℕ) (place : ℕ) → is_made (at os k) ≡ true → Stands xs place (table_of j k) → format_of (kind_at xs place) ≡ format_of (leads_to j.source k)
   pub gives : (k : ℕ) (xs : List ℕ) (place : ℕ) → is_made (at os k) ≡ true → Stands xs place (table_of j k) → leads_to_format format j.source k ≡ true
       → (c : ℕ) → glyph_of (look xs place c) ≡ listed_glyph (listed_of j k) c
@@ -46,7 +46,7 @@ maker_self (Served r) k e = absurd (false-true e)
 maker_self (Made n) k e = refl
 
 module _ (j : Job) (os : List Outcome) (s : Sound j os) where
-  module _ (format : ℕ) (look : List ℕ → ℕ → ℕ → Found) (t : Reads format look j os) where
+  module _ (format : ℕ) (look : List ℕ → ℕ → ℕ → Option ℕ) (t : Reads format look j os) where
     -- a record of the result leads to the format that its source record leads to
     leads_alike : (k : ℕ) → is_written (at os k) ≡ true → leads_to_format format (result_of j os) (count_from os k 0) ≡ leads_to_format format j.source k
     unfolding leads_to
@@ -104,19 +104,19 @@ module _ (j : Job) (os : List Outcome) (s : Sound j os) where
     old_answer_lem c =
         let r = first (makes j os 4) (length os) 0 in
         by_leb (old_head (result_of j os) c ≡ old_answer j os c) (length os) r
-        (λ h. else_lt r (length os) (Glyph (listed_glyph (listed_of j r) c)) (Refused 11) h (old_none (result_of j os) (written_count os) (accepted_result j os s) c (leaderless 4 lookup4 t4 h)))
+        (λ h. else_lt r (length os) (Ok (listed_glyph (listed_of j r) c)) (Err NothingReadable) h (old_none (result_of j os) (written_count os) (accepted_result j os s) c (leaderless 4 lookup4 t4 h)))
         (λ h.
         let d = leader 4 lookup4 t4 r refl h in
-        if_lt_lem r (length os) (Glyph (listed_glyph (listed_of j r) c)) (Refused 11) h
-        (old_first (result_of j os) (written_count os) (accepted_result j os s) c (count_from os r 0) d.inside d.leads d.none ∙ ap Glyph (d.gives c)))
+        if_lt_lem r (length os) (Ok (listed_glyph (listed_of j r) c)) (Err NothingReadable) h
+        (old_first (result_of j os) (written_count os) (accepted_result j os s) c (count_from os r 0) d.inside d.leads d.none ∙ ap Ok (d.gives c)))
 
     pub new_answer_lem : (t12 : Reads 12 lookup12 j os) (c : ℕ) → new_head (result_of j os) c ≡ new_answer j os c
     unfolding printed_by
     new_answer_lem t12 c =
         let r = first (makes j os 12) (length os) 0 in
         by_leb (new_head (result_of j os) c ≡ new_answer j os c) (length os) r
-        (λ h. else_lt r (length os) (Glyph (listed_glyph (listed_of j r) c)) (old_answer j os c) h (new_as_old (result_of j os) (written_count os) (accepted_result j os s) c (leaderless 12 lookup12 t12 h) ∙ old_answer_lem c))
+        (λ h. else_lt r (length os) (Ok (listed_glyph (listed_of j r) c)) (old_answer j os c) h (new_as_old (result_of j os) (written_count os) (accepted_result j os s) c (leaderless 12 lookup12 t12 h) ∙ old_answer_lem c))
         (λ h.
         let d = leader 12 lookup12 t12 r refl h in
-        if_lt_lem r (length os) (Glyph (listed_glyph (listed_of j r) c)) (old_answer j os c) h
-        (new_first (result_of j os) (written_count os) (accepted_result j os s) c (count_from os r 0) d.inside d.leads d.none ∙ ap Glyph (d.gives c)))
+        if_lt_lem r (length os) (Ok (listed_glyph (listed_of j r) c)) (old_answer j os c) h
+        (new_first (result_of j os) (written_count os) (accepted_result j os s) c (count_from os r 0) d.inside d.leads d.none ∙ ap Ok (d.gives c)))

@@ -1,4 +1,5 @@
 -- The case by computation: the job is accepted, its result is the source's bytes, and both heads answer.
+use Rattle.std.specs.Prelude.{Ok}
 use Prim.Native.Nat.{◌<◌}
 use mathlib.Core.Path.{◌≡◌, refl, ap, ◌∙◌}
 use mathlib.Core.List.{[], ◌∷◌}
@@ -32,7 +33,6 @@ use Rattle.plan.specs.Plan.{retained_outcome, outcome_of, outcomes, plan, refuse
 use Rattle.result.specs.Refusal.{refusal_of}
 use Rattle.result.specs.Result.{count_from, tables_from, new_offset, records_from, result_of}
 use Rattle.heads_lookup.specs.Lookup.{in_array, in_segment, find4, lookup4}
-use Rattle.heads.specs.declared.Printed.TheVariants.{Glyph}
 use Rattle.heads.specs.Heads.{old_of, new_of, by_records, old_head, new_head}
 use Rattle.cmap_answers.specs.Case.{bytes, case_job}
 
@@ -59,10 +59,10 @@ written_case = refl
 pub result_case : result_of case_job (plan case_job) ≡ bytes
 result_case = ap (result_of case_job) plan_case ∙ written_case
 
-pub old_case : old_head (result_of case_job (plan case_job)) 0x41 ≡ Glyph 1
+pub old_case : old_head (result_of case_job (plan case_job)) 0x41 ≡ Ok 1
 unfolding if_lt if_le if_eq first be refused5 kind_at leads_to in_array in_segment find4 lookup4 old_of by_records
 old_case = rw result_case
 
-pub new_case : new_head (result_of case_job (plan case_job)) 0x41 ≡ Glyph 1
+pub new_case : new_head (result_of case_job (plan case_job)) 0x41 ≡ Ok 1
 unfolding if_lt if_le if_eq first be refused5 kind_at leads_to in_array in_segment find4 lookup4 old_of new_of by_records
 new_case = rw result_case

@@ -1,4 +1,5 @@
 -- What both heads give of the result of a job that is not refused.
+use Rattle.std.specs.Prelude.{Result, Ok, Err}
 use Prim.Native.Nat.{ℕ, ◌≤◌}
 use mathlib.Core.Path.{◌≡◌, refl, sym, ap, ◌∙◌}
 use mathlib.Core.List.{List}
@@ -22,8 +23,8 @@ use Rattle.source_header.proofs.HeaderLaws.{Accepted, accepted_of}
 use Rattle.source_records.specs.Records.{leads_to, leads_to_format}
 use Rattle.plan_listing.specs.Job.{Job, glyph_count}
 use Rattle.plan_listing.specs.Listing.{maps}
-use Rattle.heads.specs.declared.Printed.{Printed}
-use Rattle.heads.specs.declared.Printed.TheVariants.{Glyph, Refused}
+use Rattle.heads.specs.declared.HeadRefusal.{HeadRefusal}
+use Rattle.heads.specs.declared.HeadRefusal.TheVariants.{NothingReadable}
 use Rattle.heads.specs.Heads.{old_head, new_head, head_number_of, printed_of}
 use Rattle.plan.proofs.OutcomesLaws.{length-plan}
 use Rattle.plan.specs.declared.Outcome.{Outcome}
@@ -49,24 +50,24 @@ use Rattle.cmap_answers.proofs.ReadsLaws.{plan_reads4, plan_reads12}
 -- ---- what an answer may print
 
 -- nothing, or the glyph that the job lists for c
-pub record Prints (j : Job) (c : ℕ) (r : Printed) : Type 0 where
+pub record Prints (j : Job) (c : ℕ) (r : Result ℕ HeadRefusal) : Type 0 where
   pub glyph : (printed_of r ≡ 0) ⊎ (printed_of r ≡ listed_glyph (pairs j.codes j.glyphs) c)
 
-listed_prints : (j : Job) (c r : ℕ) → Prints j c (Glyph (listed_glyph (listed_of j r) c))
+listed_prints : (j : Job) (c r : ℕ) → Prints j c (Ok (listed_glyph (listed_of j r) c))
 listed_prints j c r =
     rw (listed_glyph_lem j.source (glyph_count j) j.codes j.glyphs r c)
-    (by_pick (λ (g : ℕ). Prints j c (Glyph g)) (maps j.source (glyph_count j) r c) (listed_glyph (pairs j.codes j.glyphs) c) 0
+    (by_pick (λ (g : ℕ). Prints j c (Ok g)) (maps j.source (glyph_count j) r c) (listed_glyph (pairs j.codes j.glyphs) c) 0
     (λ e. record { glyph = inr refl })
     (λ e. record { glyph = inl refl }))
 
-answer_prints : (format : ℕ) (j : Job) (os : List Outcome) (c : ℕ) (other : Printed) → Prints j c other → Prints j c (printed_by format j os c other)
+answer_prints : (format : ℕ) (j : Job) (os : List Outcome) (c : ℕ) (other : Result ℕ HeadRefusal) → Prints j c other → Prints j c (printed_by format j os c other)
 unfolding printed_by if_lt
 answer_prints format j os c other p =
     let r = first (makes j os format) (length os) 0 in
-    by_pick (Prints j c) (ltb r (length os)) (Glyph (listed_glyph (listed_of j r) c)) other (λ e. listed_prints j c r) (λ e. p)
+    by_pick (Prints j c) (ltb r (length os)) (Ok (listed_glyph (listed_of j r) c)) other (λ e. listed_prints j c r) (λ e. p)
 
 old_may : (j : Job) (os : List Outcome) (c : ℕ) → Prints j c (old_answer j os c)
-old_may j os c = answer_prints 4 j os c (Refused 11) (record { glyph = inl refl })
+old_may j os c = answer_prints 4 j os c (Err NothingReadable) (record { glyph = inl refl })
 
 new_may : (j : Job) (os : List Outcome) (c : ℕ) → Prints j c (new_answer j os c)
 new_may j os c = answer_prints 12 j os c (old_answer j os c) (old_may j os c)
@@ -96,8 +97,8 @@ module _ (j : Job) (os : List Outcome) (few : record_count j.source ≤ length o
       (λ b. absurd (not_lost b a))
       (λ b.
       ap head_number_of
-      (sym (else_lt r (length os) (Glyph (listed_glyph (listed_of j r) c)) (old_answer j os c) a (if_lt_lem q (length os) (Glyph (listed_glyph (listed_of j q) c)) (Refused 11) b refl)))))
-      (λ a. ap head_number_of (sym (if_lt_lem r (length os) (Glyph (listed_glyph (listed_of j r) c)) (old_answer j os c) a refl)))
+      (sym (else_lt r (length os) (Ok (listed_glyph (listed_of j r) c)) (old_answer j os c) a (if_lt_lem q (length os) (Ok (listed_glyph (listed_of j q) c)) (Err NothingReadable) b refl)))))
+      (λ a. ap head_number_of (sym (if_lt_lem r (length os) (Ok (listed_glyph (listed_of j r) c)) (old_answer j os c) a refl)))
 
 -- ---- the theorem
 

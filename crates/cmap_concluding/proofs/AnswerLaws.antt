@@ -25,39 +25,25 @@ use Rattle.result_layout.specs.Counts.{Counts}
 use Rattle.plan.specs.declared.Outcome.TheVariants.{Made}
 use Rattle.cmap_promise.specs.declared.Answer.{Answer}
 use Rattle.cmap_promise.specs.declared.Answer.TheVariants.{Written, Refused, NoRoom}
-use Rattle.cmap_promise.specs.Cmap.{records_of, result, answer_of, output_of}
+use Rattle.cmap_promise.specs.Cmap.{records_of, result, answer_of, leaves, output_of}
 use Rattle.cmap_concluding.specs.Concluding.{Planned, answer_by}
-use Rattle.plan.specs.Notes.{outcomes_in}
-use Rattle.source_header.specs.Header.{record_count}
 use Rattle.plan.specs.Outcomes.{at}
-use Rattle.plan.proofs.NotedLaws.{length_noted}
 
 -- ---- the ways out of the step from the plan
 
-module _ (xs notes : List ℕ) (m room n : ℕ) (q : m ≡ record_count xs) (e : n ≡ late_refusal xs (outcomes_in m notes)) where
-  abbrev told : List Outcome
-  told = outcomes_in (record_count xs) notes
-
-  late : n ≡ late_refusal xs told
-  late = rw q at e
-
-  pub by_late : 0 < n → Refused n ≡ answer_by xs told room
+module _ (xs : List ℕ) (os : List Outcome) (room n : ℕ) (e : n ≡ late_refusal xs os) where
+  pub by_late : 0 < n → Refused n ≡ answer_by xs os room
   unfolding answer_by
-  by_late h = rw (← late, ne_eqb n 0 (λ z. omega (arith, h, z))) refl
+  by_late h = rw (← e, ne_eqb n 0 (λ z. omega (arith, h, z))) refl
 
-  module _ (h : n ≤ 0) (needed : ℕ) (l : needed ≡ result_length (outcomes_in m notes)) where
-    length-told : needed ≡ result_length told
-    length-told = rw q at l
-
-    pub by_room : room < needed → NoRoom needed ≡ answer_by xs told room
+  module _ (h : n ≤ 0) (needed : ℕ) (l : needed ≡ result_length os) where
+    pub by_room : room < needed → NoRoom needed ≡ answer_by xs os room
     unfolding answer_by
-    by_room s = rw (← late, eq-eqb n 0 (omega (arith, h)), ← length-told, lt-ltb room needed s) refl
+    by_room s = rw (← e, eq-eqb n 0 (omega (arith, h)), ← l, lt-ltb room needed s) refl
 
-    pub by_result : (count : ℕ) → needed ≤ room → count ≡ written_count (outcomes_in m notes) → Written needed count ≡ answer_by xs told room
+    pub by_result : (count : ℕ) → needed ≤ room → count ≡ written_count os → Written needed count ≡ answer_by xs os room
     unfolding answer_by
-    by_result count s c =
-        let d : count ≡ written_count told = rw q at c in
-        rw (← late, eq-eqb n 0 (omega (arith, h)), ← length-told, le-ltb room needed s, d) refl
+    by_result count s c = rw (← e, eq-eqb n 0 (omega (arith, h)), ← l, le-ltb room needed s, c) refl
 
 pub ruleset ways_out = (by_late, by_room, by_result)
 
@@ -90,10 +76,7 @@ pub ruleset early = (early_answer, early_output)
 pub made_long : (j : Job) (k n : ℕ) → at (plan j) k ≡ Made n → n ≡ length (table_of j k)
 made_long j k n e = made_length j k n (plan_made j k n e).is
 
-module _ (j : Job) (notes : List ℕ) (p : Planned j notes) where
-  abbrev os : List Outcome
-  os = outcomes_in (record_count j.source) notes
-
+module _ (j : Job) (os : List Outcome) (p : Planned j os) where
   late_is : late_refusal j.source os ≡ refusal_of j
   late_is = ap (late_refusal j.source) p.is ∙ sym (refusal_late j p.passing.passed)
 
@@ -130,36 +113,38 @@ accepts xs os room bytes count e =
     (λ t. record { passed = eqb-true late 0 z; fits = ltb-false room (result_length os) t; counted = sym (ap records_of (rw (z, t) at e)) }))
     (λ z. absurd (omega (arith, ap way_of (rw z at e))))
 
-module _ (j : Job) (notes : List ℕ) (p : Planned j notes) (out : List ℕ) (a : Answer) (q : a ≡ answer_by j.source (os j notes p) (length out)) where
+-- an answer that writes nothing leaves the output as it was
+unwritten : (a : Answer) (new out : List ℕ) → ((bytes count : ℕ) → a ≡ Written bytes count → ⊥) → out ≡ leaves a new out
+unwritten (Written bytes count) new out h = absurd (h bytes count refl)
+unwritten (Refused number) new out h = refl
+unwritten (NoRoom bytes) new out h = refl
+
+module _ (j : Job) (os : List Outcome) (p : Planned j os) (out : List ℕ) (a : Answer) (q : a ≡ answer_by j.source os (length out)) where
   answered : answer_of j (length out) ≡ a
-  answered = sym (answer_told j notes p (length out) a q)
+  answered = sym (answer_told j os p (length out) a q)
 
-  pub refused_keeps : (n : ℕ) → a ≡ Refused n → out ≡ output_of j out
+  pub unwritten_keeps : ((bytes count : ℕ) → a ≡ Written bytes count → ⊥) → out ≡ output_of j out
   unfolding output_of
-  refused_keeps n e = rw (answered, e) refl
-
-  pub no_room_keeps : (n : ℕ) → a ≡ NoRoom n → out ≡ output_of j out
-  unfolding output_of
-  no_room_keeps n e = rw (answered, e) refl
+  unwritten_keeps h = rw answered (unwritten a (result j) out h)
 
   module _ (bytes count : ℕ) (e : a ≡ Written bytes count) where
-    accepted : Accepts j.source (os j notes p) (length out) count
-    accepted = accepts j.source (os j notes p) (length out) bytes count (sym q ∙ e)
+    accepted : Accepts j.source os (length out) count
+    accepted = accepts j.source os (length out) bytes count (sym q ∙ e)
 
-    pub accepted_counts : Counts (record_count j.source) notes count
+    pub accepted_counts : Counts os count
     accepted_counts = record {
       told = p.told;
       is = accepted.counted;
-      few = omega (arith, accepted.counted, count_few (os j notes p) (length (os j notes p)) 0, length_noted (record_count j.source) notes p.told.long);
+      few = omega (arith, accepted.counted, count_few os (length os) 0);
     }
 
-    pub accepted_fits : result_length (os j notes p) ≤ length out
+    pub accepted_fits : result_length os ≤ length out
     accepted_fits = accepted.fits
 
     pub accepted_output : (fin : List ℕ) → fin ≡ sets out 0 (result j) → fin ≡ output_of j out
     unfolding output_of
     accepted_output fin w =
-        let room : length (result j) ≤ length out = omega (arith, long j notes p, accepted.fits) in
+        let room : length (result j) ≤ length out = omega (arith, long j os p, accepted.fits) in
         rw (answered, e) (w ∙ sets_front out (result j) room)
 
-pub ruleset outputs = (refused_keeps, no_room_keeps, accepted_counts, accepted_fits, accepted_output)
+pub ruleset outputs = (unwritten_keeps, accepted_counts, accepted_fits, accepted_output)

@@ -1,11 +1,10 @@
 -- Inner: what a plan is to the rest of a call, and the step from it to the answer; no promise names it.
-use Rattle.std.specs.Prelude.{ℕ, ◌≡◌, List, ltb, eqb}
+use Rattle.std.specs.Prelude.{ℕ, ◌≡◌, List, length, ltb, eqb}
 use Rattle.laws.specs.Choice.{pick}
 use Rattle.source_header.specs.Header.{record_count}
 use Rattle.source_records.specs.Records.{Counted}
 use Rattle.plan_listing.specs.Job.{Job}
 use Rattle.plan.specs.declared.Outcome.{Outcome}
-use Rattle.plan.specs.Notes.{outcomes_in}
 use Rattle.plan.specs.Plan.{plan}
 use Rattle.result.specs.Result.{written_count}
 use Rattle.result.specs.Layout.{result_length}
@@ -18,16 +17,17 @@ use Rattle.cmap_promise.specs.declared.Answer.TheVariants.{Written, Refused, NoR
 pub record Passing (j : Job) : Type 0 where
   pub passed : early_refusal j ≡ 0
 
--- and what is noted of its records is its plan
-pub record Planned (j : Job) (notes : List ℕ) : Type 0 where
+-- and the outcomes of its records are its plan
+pub record Planned (j : Job) (os : List Outcome) : Type 0 where
   pub passing : Passing j
-  pub is : outcomes_in (record_count j.source) notes ≡ plan j
-  pub told : OutcomesTold (record_count j.source) notes
+  pub is : os ≡ plan j
+  pub told : OutcomesTold os
 
 -- the records are all there, and each has an outcome
-pub record Concludes (xs notes : List ℕ) : Type 0 where
+pub record Concludes (xs : List ℕ) (os : List Outcome) : Type 0 where
   pub counted : Counted xs (record_count xs)
-  pub told : OutcomesTold (record_count xs) notes
+  pub told : OutcomesTold os
+  pub all : length os ≡ record_count xs
 
 -- the answer where refusals 1 to 7 let pass, with room for so many bytes
 unfoldable pub answer_by : List ℕ → List Outcome → ℕ → Answer

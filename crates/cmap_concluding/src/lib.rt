@@ -1,9 +1,7 @@
 // What a plan comes to: the answer, with refusals 8, 9 and 10, then length and record count of the result; and a record's fate.
 #![tactic(auto)]
 
-ghost use Rattle.std.specs.Prelude.{◌≡◌, ◌<◌};
-ghost use Rattle.source_header.specs.Header.{record_count};
-ghost use Rattle.plan.specs.Notes.{outcomes_in};
+ghost use Rattle.std.specs.Prelude.{◌≡◌, ◌<◌, length};
 ghost use Rattle.result.specs.Layout.{place_by_sizes};
 ghost use Rattle.result_layout.specs.Counts.{OutcomesTold};
 ghost use Rattle.cmap_promise.specs.declared.FateKind.TheVariants.{WrittenAt};
@@ -18,17 +16,16 @@ use plan::{Outcome, Why};
 // ---- the answer
 
 // The answer, where the output has room for so many bytes.
-pub fn answer_by(s: &[u8], notes: &[usize], room: usize) -> Answer
-    requires { Concludes s.now notes.now }
-    ensures { result ≡ answer_by s.now (outcomes_in (record_count s.now) notes.now) room }
+pub fn answer_by(s: &[u8], outcomes: &[Outcome], room: usize) -> Answer
+    requires { Concludes s.now outcomes.now }
+    ensures { result ≡ answer_by s.now outcomes.now room }
 {
-    let m = source_header::record_count(s);
-    let late = cmap_refusals::late_refusal(s, m, notes);
+    let late = cmap_refusals::late_refusal(s, outcomes);
     if 0 < late {
         return Answer::Refused(late);
     }
-    let count = result_layout::count_written(notes, m);
-    let needed = result_layout::result_length(notes, m, count);
+    let count = result_layout::count_written(outcomes);
+    let needed = result_layout::result_length(outcomes, count);
     if room < needed {
         return Answer::NoRoom(needed);
     }
@@ -63,45 +60,44 @@ fn left_out_as(why: Why) -> FateKind
     }
 }
 
-fn written_at(notes: &[usize], m: usize, k: usize) -> FateKind
-    requires outcomes_told { OutcomesTold m notes.now }
-    requires k_lt_m { k < m }
-    ensures { result ≡ WrittenAt (place_by_sizes (outcomes_in m notes.now) k) }
+fn written_at(outcomes: &[Outcome], k: usize) -> FateKind
+    requires outcomes_told { OutcomesTold outcomes.now }
+    requires k_in_bounds { k < length outcomes.now }
+    ensures { result ≡ WrittenAt (place_by_sizes outcomes.now k) }
 {
-    let count = result_layout::count_written(notes, m);
-    FateKind::WrittenAt(result_layout::offset_of(notes, m, k, count))
+    let count = result_layout::count_written(outcomes);
+    FateKind::WrittenAt(result_layout::offset_of(outcomes, k, count))
 }
 
-// What became of record k of m.
-fn kind_of(notes: &[usize], m: usize, k: usize) -> FateKind
-    requires servers_there { ServersThere m notes.now }
-    requires k_lt_m { k < m }
-    ensures { let os = outcomes_in m notes.now in result ≡ kind_of (place_by_sizes os) (at os k) k }
+// What became of record k.
+fn kind_of(outcomes: &[Outcome], k: usize) -> FateKind
+    requires servers_there { ServersThere outcomes.now }
+    requires k_in_bounds { k < length outcomes.now }
+    ensures { let os = outcomes.now in result ≡ kind_of (place_by_sizes os) (at os k) k }
 {
-    match plan_outcomes::outcome_at(notes, k) {
+    match outcomes[k] {
         Outcome::LeftOut(why) => left_out_as(why),
         Outcome::BadMapping => FateKind::Refused(8),
-        Outcome::Served(by) => written_at(notes, m, by),
-        Outcome::Made(_) => written_at(notes, m, k),
+        Outcome::Served(by) => written_at(outcomes, by),
+        Outcome::Made(_) => written_at(outcomes, k),
     }
 }
 
 // Refusals 8 and 9, then what became of record k.
-pub fn fate_by(s: &[u8], notes: &[usize], k: usize) -> Fate
-    requires concludes { Concludes s.now notes.now }
-    requires servers_there { ServersThere (record_count s.now) notes.now }
-    ensures { result ≡ fate_by s.now (outcomes_in (record_count s.now) notes.now) k }
+pub fn fate_by(s: &[u8], outcomes: &[Outcome], k: usize) -> Fate
+    requires concludes { Concludes s.now outcomes.now }
+    requires servers_there { ServersThere outcomes.now }
+    ensures { result ≡ fate_by s.now outcomes.now k }
 {
-    let m = source_header::record_count(s);
-    let late = cmap_refusals::late_refusal(s, m, notes);
+    let late = cmap_refusals::late_refusal(s, outcomes);
     if 0 < late {
         return no_fate(FateKind::Refused(late));
     }
-    if m <= k {
+    if outcomes.len() <= k {
         return no_fate(FateKind::NoSuchRecord);
     }
     let record = source_records::encoding_record(s, k);
-    let kind = kind_of(notes, m, k);
+    let kind = kind_of(outcomes, k);
     Fate {
         platform: record.platform,
         encoding: record.encoding,

@@ -1,4 +1,5 @@
 -- An accepted result, read back by the definitions of a source, holds the records that the fates name, each leading to a table of the format that was written.
+use Rattle.std.specs.Prelude.{Some}
 use Prim.Native.Nat.{ℕ, ◌<◌, ◌≤◌}
 use mathlib.Core.Path.{◌≡◌, refl, sym, ap, ◌∙◌}
 use lib.ListN.{length}
@@ -8,7 +9,6 @@ use borrow.Author.Tests.{eq-eqb, lt-ltb}
 use Rattle.laws.proofs.ChoiceLaws.{false-true, by_leb}
 use Rattle.laws.proofs.StandsLaws.{Stands}
 use Rattle.number.specs.BigEndian.{Bytes}
-use Rattle.source_header.specs.declared.Header.TheVariants.{Records}
 use Rattle.source_header.specs.Header.{record_count, platform_of, encoding_of, header_of}
 use Rattle.source_header.specs.Header.{offset_of}
 use Rattle.source.specs.Kind.{kind_at, format_of}
@@ -103,7 +103,7 @@ module _ (j : Job) (bytes : Bytes j.source) (accepted : refusal_of j ≡ 0) wher
   sound = plan_sound j limits few
 
   -- the result's header is that of a source, and counts the records that are written
-  pub result_header : header_of (result j) ≡ Records (written_count (plan j))
+  pub result_header : header_of (result j) ≡ Some (written_count (plan j))
   result_header = sym (gives_records (result j) (accepted_result j (plan j) sound))
 
   fate_is : (k : ℕ) → k < record_count j.source → fate_of j k ≡ record_fate (new_offset j (plan j)) j.source (plan j) k

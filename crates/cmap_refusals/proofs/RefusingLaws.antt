@@ -1,4 +1,5 @@
 -- What the functions come to test by test, and what a job that refusals 1 to 7 let pass holds to.
+use Rattle.std.specs.Prelude.{Option, Some, None}
 use Prim.Native.Nat.{ℕ, ◌≤◌}
 use mathlib.Core.Path.{◌≡◌, refl, sym, ◌∙◌}
 use mathlib.Core.List.{List}
@@ -6,8 +7,6 @@ use native.Mathlib.Omega.{arith}
 use lib.ListN.{length}
 use Rattle.laws.specs.Choice.{if_eq}
 use Rattle.number.specs.BigEndian.{Bytes}
-use Rattle.source_header.specs.declared.Header.{Header}
-use Rattle.source_header.specs.declared.Header.TheVariants.{Records, Refused}
 use Rattle.source_header.specs.Header.{header_of}
 use Rattle.source_header.proofs.HeaderLaws.{accepted_of, not_refused, tells_records, tells_refused}
 use Rattle.source_records.specs.Records.{Counted}
@@ -22,17 +21,17 @@ use Rattle.cmap_refusals.specs.Refusing.{list_refusal, source_refusal, format_re
 
 -- ---- the header
 
-module _ (xs : List ℕ) (h : Header) where
-  pub header_counts : (m : ℕ) → h ≡ header_of xs → h ≡ Records m → Counted xs m
+module _ (xs : List ℕ) (h : Option ℕ) where
+  pub header_counts : (m : ℕ) → h ≡ header_of xs → h ≡ Some m → Counted xs m
   header_counts m q e =
       let a = tells_records xs (sym q ∙ e) in
       record { is = a.count; inside = a.fits }
 
-  pub header_refused : h ≡ header_of xs → h ≡ Refused → 5 ≡ source_refusal xs
+  pub header_refused : h ≡ header_of xs → h ≡ None → 5 ≡ source_refusal xs
   unfolding source_refusal
   header_refused q e = rw (tells_refused xs (sym q ∙ e))
 
-  pub header_passed : (m r : ℕ) → h ≡ header_of xs → h ≡ Records m → r ≡ format_refusal xs → r ≡ source_refusal xs
+  pub header_passed : (m r : ℕ) → h ≡ header_of xs → h ≡ Some m → r ≡ format_refusal xs → r ≡ source_refusal xs
   unfolding source_refusal format_refusal
   header_passed m r q e f = rw (not_refused xs (tells_records xs (sym q ∙ e))) f
 

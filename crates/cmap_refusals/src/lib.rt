@@ -1,46 +1,41 @@
 // The refusals in their order: 1 to 7 of what is lent, 8 and 9 of a plan.
 #![tactic(auto)]
 
-ghost use Rattle.std.specs.Prelude.{◌≡◌, ◌<◌, ◌≤◌, length};
+ghost use Rattle.plan_listing.specs.Lent.{lent_job};
+ghost use Rattle.std.specs.Prelude.{◌≡◌, ◌<◌, length};
+ghost use Rattle.std.specs.List.{list_any};
 ghost use Rattle.laws.specs.Choice.{if_eq, either};
 ghost use Rattle.source_records.specs.Records.{Counted, leads_to_format, Placed};
-ghost use Rattle.plan_listing.specs.Job.{job};
 ghost use Rattle.result.specs.Refusal.{early_refusal, late_refusal};
 ghost use Rattle.cmap_refusals.specs.Refusing.{list_refusal, source_refusal, format_refusal};
-ghost use Rattle.plan.specs.Notes.{outcomes_in};
+ghost use Rattle.plan.specs.Outcomes.{is_bad};
 ghost use Rattle.plan.specs.Plan.{refused8, refused9, made_plain};
 
-use source_header::Header;
+use plan::Outcome;
+use plan_listing::Job;
 
 // Refusals 1 to 4. That the points rise, which 3 asks for, and the bounds of n, which 4 asks for, are known by then.
-fn list_refusal(
-    s: &[u8],
-    codes: &[u32],
-    glyphs: &[u16],
-    kept: &[u32],
-    map: &[u16],
-    requested: &[u16],
-) -> u8
-    ensures { result ≡ list_refusal (job s.now codes.now glyphs.now kept.now map.now requested.now) }
+fn list_refusal(job: &Job) -> u8
+    ensures { result ≡ list_refusal (lent_job job.now) }
 {
-    let n = map.len();
+    let n = job.map.len();
     if lists_checks::bad_sizes(
-        s.len(),
-        codes.len(),
-        glyphs.len(),
-        kept.len(),
+        job.source.len(),
+        job.codes.len(),
+        job.glyphs.len(),
+        job.kept.len(),
         n,
-        requested.len(),
+        job.requested.len(),
     ) {
         return 1;
     }
-    if lists_checks::bad_pairs(codes, glyphs) {
+    if lists_checks::bad_pairs(job.codes, job.glyphs) {
         return 2;
     }
-    if lists_checks::bad_kept(kept, codes) {
+    if lists_checks::bad_kept(job.kept, job.codes) {
         return 3;
     }
-    if lists_checks::bad_requested(n, requested) {
+    if lists_checks::bad_requested(n, job.requested) {
         return 4;
     }
     0
@@ -65,8 +60,8 @@ fn source_refusal(s: &[u8]) -> u8
     ensures { result ≡ source_refusal s.now }
 {
     match source_header::header_of(s) {
-        Header::Refused => 5,
-        Header::Records(m) => format_refusal(s, m),
+        None => 5,
+        Some(m) => format_refusal(s, m),
     }
 }
 
@@ -81,34 +76,24 @@ fn first_of(a: u8, b: u8) -> u8
 }
 
 // Refusals 1 to 7; 0 where none of them holds.
-pub fn early_refusal(
-    s: &[u8],
-    codes: &[u32],
-    glyphs: &[u16],
-    kept: &[u32],
-    map: &[u16],
-    requested: &[u16],
-) -> u8
-    ensures { result ≡ early_refusal (job s.now codes.now glyphs.now kept.now map.now requested.now) }
+pub fn early_refusal(job: &Job) -> u8
+    ensures { result ≡ early_refusal (lent_job job.now) }
 {
-    let lists = list_refusal(s, codes, glyphs, kept, map, requested);
-    let source = source_refusal(s);
-    first_of(lists, source)
+    first_of(list_refusal(job), source_refusal(job.source))
+}
+
+// Whether a mapping of some record names a missing glyph.
+fn some_bad(outcomes: &[Outcome]) -> bool
+    ensures { result ≡ list_any is_bad outcomes.now }
+{
+    outcomes.iter().any(|o| plan_outcomes::is_bad(*o))
 }
 
 // Refusal 8.
-fn names_missing(notes: &[usize], m: usize) -> bool
-    requires { m ≤ length notes.now }
-    ensures { result ≡ refused8 (outcomes_in m notes.now) }
+fn names_missing(outcomes: &[Outcome]) -> bool
+    ensures { result ≡ refused8 outcomes.now }
 {
-    let mut k = 0;
-    while k < m {
-        if plan_outcomes::is_bad(plan_outcomes::outcome_at(notes, k)) {
-            return true;
-        }
-        k += 1;
-    }
-    false
+    some_bad(outcomes)
 }
 
 // Whether record k leads to a format 4 or 12.
@@ -116,50 +101,35 @@ fn is_plain(s: &[u8], k: usize) -> bool
     requires { Placed s.now k }
     ensures { result ≡ either (leads_to_format 4 s.now k) (leads_to_format 12 s.now k) }
 {
-    if source_records::leads_to_format(s, k, 4) {
-        return true;
-    }
-    source_records::leads_to_format(s, k, 12)
+    source_records::leads_to_format(s, k, 4) || source_records::leads_to_format(s, k, 12)
 }
 
-// Whether record k of m made a format 4 or 12 table.
-fn made_plain(s: &[u8], m: usize, notes: &[usize], k: usize) -> bool
+// Whether record k made a format 4 or 12 table.
+fn made_plain(s: &[u8], outcomes: &[Outcome], k: usize) -> bool
     requires placed { Placed s.now k }
-    requires k_lt_m { (k < m) × (m ≤ length notes.now) }
-    ensures { result ≡ made_plain s.now (outcomes_in m notes.now) k }
+    requires k_in_bounds { k < length outcomes.now }
+    ensures { result ≡ made_plain s.now outcomes.now k }
 {
-    if plan_outcomes::is_made(plan_outcomes::outcome_at(notes, k)) {
-        return is_plain(s, k);
-    }
-    false
+    plan_outcomes::is_made(outcomes[k]) && is_plain(s, k)
 }
 
 // Refusal 9.
-fn lacks_plain(s: &[u8], m: usize, notes: &[usize]) -> bool
-    requires counted { Counted s.now m }
-    requires m_in_bounds { m ≤ length notes.now }
-    ensures { result ≡ refused9 s.now (outcomes_in m notes.now) }
+fn lacks_plain(s: &[u8], outcomes: &[Outcome]) -> bool
+    requires { Counted s.now (length outcomes.now) }
+    ensures { result ≡ refused9 s.now outcomes.now }
 {
-    let mut k = 0;
-    while k < m {
-        if made_plain(s, m, notes, k) {
-            return false;
-        }
-        k += 1;
-    }
-    true
+    !laws::some(outcomes.len(), |k| made_plain(s, outcomes, k))
 }
 
-// Refusals 8 and 9 of a plan of m records; 0 where neither holds.
-pub fn late_refusal(s: &[u8], m: usize, notes: &[usize]) -> u8
-    requires counted { Counted s.now m }
-    requires m_in_bounds { m ≤ length notes.now }
-    ensures { result ≡ late_refusal s.now (outcomes_in m notes.now) }
+// Refusals 8 and 9 of a plan that has these outcomes; 0 where neither holds.
+pub fn late_refusal(s: &[u8], outcomes: &[Outcome]) -> u8
+    requires { Counted s.now (length outcomes.now) }
+    ensures { result ≡ late_refusal s.now outcomes.now }
 {
-    if names_missing(notes, m) {
+    if names_missing(outcomes) {
         return 8;
     }
-    if lacks_plain(s, m, notes) {
+    if lacks_plain(s, outcomes) {
         return 9;
     }
     0

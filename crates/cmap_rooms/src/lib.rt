@@ -2,9 +2,11 @@
 // than most jobs.
 #![tactic(auto)]
 
-ghost use Rattle.std.specs.Prelude.{◌≡◌, length};
+ghost use Rattle.plan_listing.specs.Lent.{lent_job};
+ghost use Rattle.std.specs.Prelude.{◌≡◌, ◌≤◌, leb, length};
 ghost use Rattle.source_header.specs.Header.{record_count};
-ghost use Rattle.plan_listing.specs.Job.{job};
+ghost use Rattle.laws.specs.Choice.{both};
+ghost use Rattle.number.specs.Limits.{kept_max};
 ghost use Rattle.plan.specs.Notes.{outcomes_in};
 ghost use Rattle.plan.specs.Prepared.{Prepared};
 ghost use Rattle.cmap_promise.specs.Cmap.{answer_of, output_of};
@@ -14,8 +16,10 @@ ghost use Rattle.cmap_rooms.specs.Rooms.{FitsRoom, Writes};
 
 use cmap_promise::{Answer, Fate};
 use number::limits::{KEPT_MAX, PAIRS_MAX};
+use plan::Notes;
+use plan_listing::Job;
 
-// Room that is enough for most jobs, and cleared in no time.
+// Room that is enough for most jobs, and quickly cleared.
 const SMALL_KEPT: usize = 4096;
 
 const SMALL_PAIRS: usize = 2048;
@@ -25,367 +29,140 @@ const MIDDLE_KEPT: usize = 32768;
 
 const MIDDLE_PAIRS: usize = 16384;
 
+// Whether room for so many kept points and pairs is enough.
+fn fits(job: &Job, kept: usize, pairs: usize) -> bool
+    ensures { result ≡ both (leb (length job.now.kept.now) kept) (leb (length job.now.codes.now) pairs) }
+{
+    job.kept.len() <= kept && job.codes.len() <= pairs
+}
+
 // ---- the cut
 
 // Writes the result where the answer is that it is written; the flags and the two lists after them are work room.
 fn write_result(
     out: &mut [u8],
-    s: &[u8],
-    codes: &[u32],
-    glyphs: &[u16],
-    kept: &[u32],
-    map: &[u16],
-    requested: &[u16],
+    job: &Job,
     flags: &mut [u8],
     tocodes: &mut [u32],
     toglyphs: &mut [u16],
-    notes: &[usize],
+    notes: &Notes,
     answer: Answer,
 )
-    requires { let j = job s.now codes.now glyphs.now kept.now map.now requested.now in
-        Writes j notes.now flags.old tocodes.old toglyphs.old
-        × (answer ≡ answer_by s.now (outcomes_in (record_count s.now) notes.now) (length out.old)) }
-    ensures { out.new ≡ output_of (job s.now codes.now glyphs.now kept.now map.now requested.now) out.old }
+    requires writes { Writes (lent_job job.now) notes.now flags.old tocodes.old toglyphs.old }
+    requires answered { answer ≡ answer_by job.now.source.now (outcomes_in (record_count job.now.source.now) notes.now) (length out.old) }
+    ensures { out.new ≡ output_of (lent_job job.now) out.old }
 {
-    match answer {
-        Answer::Written { bytes: _, records } => result_writer::serialize_cmap(
-            out, s, codes, glyphs, kept, map, requested, flags, tocodes, toglyphs, notes, records,
-        ),
-        Answer::Refused(_) => {}
-        Answer::NoRoom(_) => {}
+    if let Answer::Written { records, .. } = answer {
+        result_writer::serialize_cmap(out, job, flags, tocodes, toglyphs, notes, records);
     }
 }
 
 // Plans, answers, and writes the result where nothing refuses it; the four slices before the output are work room.
 fn carry_out_on(
-    s: &[u8],
-    codes: &[u32],
-    glyphs: &[u16],
-    kept: &[u32],
-    map: &[u16],
-    requested: &[u16],
+    job: &Job,
     flags: &mut [u8],
     others: &mut [u8],
     tocodes: &mut [u32],
     toglyphs: &mut [u16],
     out: &mut [u8],
 ) -> Answer
-    requires passing { Passing (job s.now codes.now glyphs.now kept.now map.now requested.now) }
-    requires prepared { Prepared (job s.now codes.now glyphs.now kept.now map.now requested.now) flags.old others.old tocodes.old toglyphs.old }
-    ensures { let j = job s.now codes.now glyphs.now kept.now map.now requested.now in (result ≡ answer_of j (length out.old)) × (out.new ≡ output_of j out.old) }
+    requires passing { Passing (lent_job job.now) }
+    requires prepared { Prepared (lent_job job.now) flags.old others.old tocodes.old toglyphs.old }
+    ensures value { result ≡ answer_of (lent_job job.now) (length out.old) }
+    ensures out_after { out.new ≡ output_of (lent_job job.now) out.old }
 {
-    let mut notes = [0usize; plan::NOTES];
-    plan_walk::plan(
-        s, codes, glyphs, kept, map, requested, flags, others, tocodes, toglyphs, &mut notes,
-    );
-    let answer = cmap_concluding::answer_by(s, &notes, out.len());
-    write_result(
-        out, s, codes, glyphs, kept, map, requested, flags, tocodes, toglyphs, &notes, answer,
-    );
+    let mut notes = Notes::new();
+    plan_walk::plan(job, flags, others, tocodes, toglyphs, &mut notes);
+    let outcomes = &notes.outcomes[..source_header::record_count(job.source)];
+    let answer = cmap_concluding::answer_by(job.source, outcomes, out.len());
+    write_result(out, job, flags, tocodes, toglyphs, &notes, answer);
     answer
 }
 
-fn carry_out_in_small_room(
-    s: &[u8],
-    codes: &[u32],
-    glyphs: &[u16],
-    kept: &[u32],
-    map: &[u16],
-    requested: &[u16],
-    out: &mut [u8],
-) -> Answer
-    requires passing { Passing (job s.now codes.now glyphs.now kept.now map.now requested.now) }
-    requires fits_room { FitsRoom 4096 2048 codes.now kept.now }
-    ensures { let j = job s.now codes.now glyphs.now kept.now map.now requested.now in (result ≡ answer_of j (length out.old)) × (out.new ≡ output_of j out.old) }
+// The same in room of its own. It is a call of its own so that a small job's frame stays small.
+#[inline(never)]
+fn carry_out_in<const KEPT: usize, const PAIRS: usize>(job: &Job, out: &mut [u8]) -> Answer
+    requires few { (PAIRS ≤ KEPT) × (KEPT ≤ kept_max) }
+    requires passing { Passing (lent_job job.now) }
+    requires fits_room { FitsRoom KEPT PAIRS job.now.codes.now job.now.kept.now }
+    ensures value { result ≡ answer_of (lent_job job.now) (length out.old) }
+    ensures out_after { out.new ≡ output_of (lent_job job.now) out.old }
 {
-    let mut flags = [0u8; SMALL_KEPT];
-    let mut others = [0u8; SMALL_KEPT];
-    let mut tocodes = [0u32; SMALL_PAIRS];
-    let mut toglyphs = [0u16; SMALL_PAIRS];
+    let mut flags = [0u8; KEPT];
+    let mut others = [0u8; KEPT];
+    let mut tocodes = [0u32; PAIRS];
+    let mut toglyphs = [0u16; PAIRS];
     carry_out_on(
-        s,
-        codes,
-        glyphs,
-        kept,
-        map,
-        requested,
+        job,
         &mut flags,
         &mut others,
         &mut tocodes,
         &mut toglyphs,
         out,
     )
-}
-
-fn carry_out_in_middle_room(
-    s: &[u8],
-    codes: &[u32],
-    glyphs: &[u16],
-    kept: &[u32],
-    map: &[u16],
-    requested: &[u16],
-    out: &mut [u8],
-) -> Answer
-    requires passing { Passing (job s.now codes.now glyphs.now kept.now map.now requested.now) }
-    requires fits_room { FitsRoom 32768 16384 codes.now kept.now }
-    ensures { let j = job s.now codes.now glyphs.now kept.now map.now requested.now in (result ≡ answer_of j (length out.old)) × (out.new ≡ output_of j out.old) }
-{
-    let mut flags = [0u8; MIDDLE_KEPT];
-    let mut others = [0u8; MIDDLE_KEPT];
-    let mut tocodes = [0u32; MIDDLE_PAIRS];
-    let mut toglyphs = [0u16; MIDDLE_PAIRS];
-    carry_out_on(
-        s,
-        codes,
-        glyphs,
-        kept,
-        map,
-        requested,
-        &mut flags,
-        &mut others,
-        &mut tocodes,
-        &mut toglyphs,
-        out,
-    )
-}
-
-fn carry_out_in_full_room(
-    s: &[u8],
-    codes: &[u32],
-    glyphs: &[u16],
-    kept: &[u32],
-    map: &[u16],
-    requested: &[u16],
-    out: &mut [u8],
-) -> Answer
-    requires { Passing (job s.now codes.now glyphs.now kept.now map.now requested.now) }
-    ensures { let j = job s.now codes.now glyphs.now kept.now map.now requested.now in (result ≡ answer_of j (length out.old)) × (out.new ≡ output_of j out.old) }
-{
-    let mut flags = [0u8; KEPT_MAX];
-    let mut others = [0u8; KEPT_MAX];
-    let mut tocodes = [0u32; PAIRS_MAX];
-    let mut toglyphs = [0u16; PAIRS_MAX];
-    carry_out_on(
-        s,
-        codes,
-        glyphs,
-        kept,
-        map,
-        requested,
-        &mut flags,
-        &mut others,
-        &mut tocodes,
-        &mut toglyphs,
-        out,
-    )
-}
-
-// For a job that is not small. Called from two places and too long to be compiled into them, so that a small job's frame stays small.
-fn carry_out_in_large_room(
-    s: &[u8],
-    codes: &[u32],
-    glyphs: &[u16],
-    kept: &[u32],
-    map: &[u16],
-    requested: &[u16],
-    out: &mut [u8],
-) -> Answer
-    requires { Passing (job s.now codes.now glyphs.now kept.now map.now requested.now) }
-    ensures { let j = job s.now codes.now glyphs.now kept.now map.now requested.now in (result ≡ answer_of j (length out.old)) × (out.new ≡ output_of j out.old) }
-{
-    if MIDDLE_KEPT < kept.len() {
-        return carry_out_in_full_room(s, codes, glyphs, kept, map, requested, out);
-    }
-    if MIDDLE_PAIRS < codes.len() {
-        return carry_out_in_full_room(s, codes, glyphs, kept, map, requested, out);
-    }
-    carry_out_in_middle_room(s, codes, glyphs, kept, map, requested, out)
 }
 
 // The answer, and the result in the output where it is written.
-pub fn carry_out(
-    s: &[u8],
-    codes: &[u32],
-    glyphs: &[u16],
-    kept: &[u32],
-    map: &[u16],
-    requested: &[u16],
-    out: &mut [u8],
-) -> Answer
-    requires { Passing (job s.now codes.now glyphs.now kept.now map.now requested.now) }
-    ensures { let j = job s.now codes.now glyphs.now kept.now map.now requested.now in (result ≡ answer_of j (length out.old)) × (out.new ≡ output_of j out.old) }
+pub fn carry_out(job: &Job, out: &mut [u8]) -> Answer
+    requires { Passing (lent_job job.now) }
+    ensures value { result ≡ answer_of (lent_job job.now) (length out.old) }
+    ensures out_after { out.new ≡ output_of (lent_job job.now) out.old }
 {
-    if SMALL_KEPT < kept.len() {
-        return carry_out_in_large_room(s, codes, glyphs, kept, map, requested, out);
+    if fits(job, SMALL_KEPT, SMALL_PAIRS) {
+        return carry_out_in::<SMALL_KEPT, SMALL_PAIRS>(job, out);
     }
-    if SMALL_PAIRS < codes.len() {
-        return carry_out_in_large_room(s, codes, glyphs, kept, map, requested, out);
+    if fits(job, MIDDLE_KEPT, MIDDLE_PAIRS) {
+        return carry_out_in::<MIDDLE_KEPT, MIDDLE_PAIRS>(job, out);
     }
-    carry_out_in_small_room(s, codes, glyphs, kept, map, requested, out)
+    carry_out_in::<KEPT_MAX, PAIRS_MAX>(job, out)
 }
 
 // ---- a fate
 
 // Plans, and tells what becomes of record k; the four slices before it are work room.
 fn tell_on(
-    s: &[u8],
-    codes: &[u32],
-    glyphs: &[u16],
-    kept: &[u32],
-    map: &[u16],
-    requested: &[u16],
+    job: &Job,
     flags: &mut [u8],
     others: &mut [u8],
     tocodes: &mut [u32],
     toglyphs: &mut [u16],
     k: usize,
 ) -> Fate
-    requires passing { Passing (job s.now codes.now glyphs.now kept.now map.now requested.now) }
-    requires prepared { Prepared (job s.now codes.now glyphs.now kept.now map.now requested.now) flags.old others.old tocodes.old toglyphs.old }
-    ensures { result ≡ fate_of (job s.now codes.now glyphs.now kept.now map.now requested.now) k }
+    requires passing { Passing (lent_job job.now) }
+    requires prepared { Prepared (lent_job job.now) flags.old others.old tocodes.old toglyphs.old }
+    ensures { result ≡ fate_of (lent_job job.now) k }
 {
-    let mut notes = [0usize; plan::NOTES];
-    plan_walk::plan(
-        s, codes, glyphs, kept, map, requested, flags, others, tocodes, toglyphs, &mut notes,
-    );
-    cmap_concluding::fate_by(s, &notes, k)
+    let mut notes = Notes::new();
+    plan_walk::plan(job, flags, others, tocodes, toglyphs, &mut notes);
+    let outcomes = &notes.outcomes[..source_header::record_count(job.source)];
+    cmap_concluding::fate_by(job.source, outcomes, k)
 }
 
-fn tell_in_small_room(
-    s: &[u8],
-    codes: &[u32],
-    glyphs: &[u16],
-    kept: &[u32],
-    map: &[u16],
-    requested: &[u16],
-    k: usize,
-) -> Fate
-    requires passing { Passing (job s.now codes.now glyphs.now kept.now map.now requested.now) }
-    requires fits_room { FitsRoom 4096 2048 codes.now kept.now }
-    ensures { result ≡ fate_of (job s.now codes.now glyphs.now kept.now map.now requested.now) k }
+// The same in room of its own, a call of its own for the same reason.
+#[inline(never)]
+fn tell_in<const KEPT: usize, const PAIRS: usize>(job: &Job, k: usize) -> Fate
+    requires few { (PAIRS ≤ KEPT) × (KEPT ≤ kept_max) }
+    requires passing { Passing (lent_job job.now) }
+    requires fits_room { FitsRoom KEPT PAIRS job.now.codes.now job.now.kept.now }
+    ensures { result ≡ fate_of (lent_job job.now) k }
 {
-    let mut flags = [0u8; SMALL_KEPT];
-    let mut others = [0u8; SMALL_KEPT];
-    let mut tocodes = [0u32; SMALL_PAIRS];
-    let mut toglyphs = [0u16; SMALL_PAIRS];
-    tell_on(
-        s,
-        codes,
-        glyphs,
-        kept,
-        map,
-        requested,
-        &mut flags,
-        &mut others,
-        &mut tocodes,
-        &mut toglyphs,
-        k,
-    )
+    let mut flags = [0u8; KEPT];
+    let mut others = [0u8; KEPT];
+    let mut tocodes = [0u32; PAIRS];
+    let mut toglyphs = [0u16; PAIRS];
+    tell_on(job, &mut flags, &mut others, &mut tocodes, &mut toglyphs, k)
 }
 
-fn tell_in_middle_room(
-    s: &[u8],
-    codes: &[u32],
-    glyphs: &[u16],
-    kept: &[u32],
-    map: &[u16],
-    requested: &[u16],
-    k: usize,
-) -> Fate
-    requires passing { Passing (job s.now codes.now glyphs.now kept.now map.now requested.now) }
-    requires fits_room { FitsRoom 32768 16384 codes.now kept.now }
-    ensures { result ≡ fate_of (job s.now codes.now glyphs.now kept.now map.now requested.now) k }
+// What becomes of record k. The choice of a room is all that it shares with `carry_out`, which hands the output on and has two clauses.
+pub fn tell(job: &Job, k: usize) -> Fate
+    requires { Passing (lent_job job.now) }
+    ensures { result ≡ fate_of (lent_job job.now) k }
 {
-    let mut flags = [0u8; MIDDLE_KEPT];
-    let mut others = [0u8; MIDDLE_KEPT];
-    let mut tocodes = [0u32; MIDDLE_PAIRS];
-    let mut toglyphs = [0u16; MIDDLE_PAIRS];
-    tell_on(
-        s,
-        codes,
-        glyphs,
-        kept,
-        map,
-        requested,
-        &mut flags,
-        &mut others,
-        &mut tocodes,
-        &mut toglyphs,
-        k,
-    )
-}
-
-fn tell_in_full_room(
-    s: &[u8],
-    codes: &[u32],
-    glyphs: &[u16],
-    kept: &[u32],
-    map: &[u16],
-    requested: &[u16],
-    k: usize,
-) -> Fate
-    requires { Passing (job s.now codes.now glyphs.now kept.now map.now requested.now) }
-    ensures { result ≡ fate_of (job s.now codes.now glyphs.now kept.now map.now requested.now) k }
-{
-    let mut flags = [0u8; KEPT_MAX];
-    let mut others = [0u8; KEPT_MAX];
-    let mut tocodes = [0u32; PAIRS_MAX];
-    let mut toglyphs = [0u16; PAIRS_MAX];
-    tell_on(
-        s,
-        codes,
-        glyphs,
-        kept,
-        map,
-        requested,
-        &mut flags,
-        &mut others,
-        &mut tocodes,
-        &mut toglyphs,
-        k,
-    )
-}
-
-// For a job that is not small. Called from two places and too long to be compiled into them, so that a small job's frame stays small.
-fn tell_in_large_room(
-    s: &[u8],
-    codes: &[u32],
-    glyphs: &[u16],
-    kept: &[u32],
-    map: &[u16],
-    requested: &[u16],
-    k: usize,
-) -> Fate
-    requires { Passing (job s.now codes.now glyphs.now kept.now map.now requested.now) }
-    ensures { result ≡ fate_of (job s.now codes.now glyphs.now kept.now map.now requested.now) k }
-{
-    if MIDDLE_KEPT < kept.len() {
-        return tell_in_full_room(s, codes, glyphs, kept, map, requested, k);
+    if fits(job, SMALL_KEPT, SMALL_PAIRS) {
+        return tell_in::<SMALL_KEPT, SMALL_PAIRS>(job, k);
     }
-    if MIDDLE_PAIRS < codes.len() {
-        return tell_in_full_room(s, codes, glyphs, kept, map, requested, k);
+    if fits(job, MIDDLE_KEPT, MIDDLE_PAIRS) {
+        return tell_in::<MIDDLE_KEPT, MIDDLE_PAIRS>(job, k);
     }
-    tell_in_middle_room(s, codes, glyphs, kept, map, requested, k)
-}
-
-// What becomes of record k.
-pub fn tell(
-    s: &[u8],
-    codes: &[u32],
-    glyphs: &[u16],
-    kept: &[u32],
-    map: &[u16],
-    requested: &[u16],
-    k: usize,
-) -> Fate
-    requires { Passing (job s.now codes.now glyphs.now kept.now map.now requested.now) }
-    ensures { result ≡ fate_of (job s.now codes.now glyphs.now kept.now map.now requested.now) k }
-{
-    if SMALL_KEPT < kept.len() {
-        return tell_in_large_room(s, codes, glyphs, kept, map, requested, k);
-    }
-    if SMALL_PAIRS < codes.len() {
-        return tell_in_large_room(s, codes, glyphs, kept, map, requested, k);
-    }
-    tell_in_small_room(s, codes, glyphs, kept, map, requested, k)
+    tell_in::<KEPT_MAX, PAIRS_MAX>(job, k)
 }

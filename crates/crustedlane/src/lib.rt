@@ -1,16 +1,14 @@
 // What a host calls: the two calls over pair records, and the two print heads. Any sizes and any bytes get an answer.
 #![tactic(auto)]
 
-ghost use Rattle.std.specs.Prelude.{◌≡◌, ◌≤◌, length, take};
-ghost use Rattle.plan_listing.specs.Job.{job};
-ghost use Rattle.cmap_promise.specs.Cmap.{answer_of, output_of};
-ghost use Rattle.cmap_promise.specs.Fates.{fate_of};
+ghost use Rattle.std.specs.Prelude.{◌≡◌, length};
 ghost use Rattle.heads.specs.Heads.{old_head, new_head};
 ghost use Rattle.host_told.specs.Told.{told, told_fate, told_head};
 ghost use Rattle.host_calls.specs.Calls.{subset_of, record_fate_of, codes_after, glyphs_after, out_after};
 
 use host_pairs::PairRecord;
 use host_told::{FateAnswer, HeadAnswer, SubsetAnswer};
+use plan_listing::Job;
 
 // ---- the print heads
 
@@ -24,44 +22,6 @@ pub fn cmap_new_head(table: &[u8], c: u32) -> HeadAnswer
     ensures { result ≡ told_head (new_head table.now c) }
 {
     host_told::new_head(table, c)
-}
-
-// ---- the core on the work room that is lent, its answers told in numbers
-
-// The core on the first n places of the work room.
-fn subset_on_room(
-    source: &[u8],
-    codes: &mut [u32],
-    glyphs: &mut [u16],
-    n: usize,
-    kept: &[u32],
-    map: &[u16],
-    requested: &[u16],
-    out: &mut [u8],
-) -> SubsetAnswer
-    requires { (n ≤ length codes.old) × (n ≤ length glyphs.old) }
-    ensures { (result ≡ told (answer_of (job source.now (take n codes.old) (take n glyphs.old) kept.now map.now requested.now) (length out.old)))
-        × (codes.new ≡ codes.old) × (glyphs.new ≡ glyphs.old)
-        × (out.new ≡ output_of (job source.now (take n codes.old) (take n glyphs.old) kept.now map.now requested.now) out.old) }
-{
-    host_told::tell(cmap::subset(source, &codes[..n], &glyphs[..n], kept, map, requested, out))
-}
-
-fn fate_on_room(
-    source: &[u8],
-    codes: &mut [u32],
-    glyphs: &mut [u16],
-    n: usize,
-    kept: &[u32],
-    map: &[u16],
-    requested: &[u16],
-    k: usize,
-) -> FateAnswer
-    requires { (n ≤ length codes.old) × (n ≤ length glyphs.old) }
-    ensures { (result ≡ told_fate (fate_of (job source.now (take n codes.old) (take n glyphs.old) kept.now map.now requested.now) k))
-        × (codes.new ≡ codes.old) × (glyphs.new ≡ glyphs.old) }
-{
-    host_told::tell_fate(cmap::fate_of(source, &codes[..n], &glyphs[..n], kept, map, requested, k))
 }
 
 // ---- the calls
@@ -98,7 +58,15 @@ pub fn cmap_subset(
         };
     }
     host_pairs::copy_pairs(pairs, codes, glyphs);
-    subset_on_room(source, codes, glyphs, n, kept, map, requested, out)
+    let job = Job {
+        source,
+        codes: &codes[..n],
+        glyphs: &glyphs[..n],
+        kept,
+        map,
+        requested,
+    };
+    cmap::subset(&job, out).into()
 }
 
 pub fn cmap_fate(
@@ -134,5 +102,13 @@ pub fn cmap_fate(
         };
     }
     host_pairs::copy_pairs(pairs, codes, glyphs);
-    fate_on_room(source, codes, glyphs, n, kept, map, requested, k)
+    let job = Job {
+        source,
+        codes: &codes[..n],
+        glyphs: &glyphs[..n],
+        kept,
+        map,
+        requested,
+    };
+    cmap::fate_of(&job, k).into()
 }

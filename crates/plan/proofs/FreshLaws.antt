@@ -11,55 +11,54 @@ use Rattle.source.specs.Kind.{format_of}
 use Rattle.source.proofs.KindLaws.{tells14}
 use Rattle.source_records.specs.Records.{leads_to}
 use Rattle.plan_listing.specs.Job.{Job, job}
-use Rattle.plan_listing.specs.Listing.{listed}
 use Rattle.format4.specs.Size.{size_of4}
 use Rattle.format12.specs.Format12.{size_of12}
 use Rattle.plan.specs.Making.{Leads}
-use Rattle.format14.specs.Selectors.{job14}
 use Rattle.format14.specs.ByNumber.{Readable}
 use Rattle.format14.specs.Format14.{outcome14}
 use Rattle.plan.specs.declared.Outcome.{Outcome}
 use Rattle.plan.specs.declared.Why.TheVariants.{Skipped}
 use Rattle.plan.specs.declared.Outcome.TheVariants.{LeftOut, Made}
-use Rattle.plan.specs.Fresh.{by4, by14, fresh}
+use Rattle.plan.specs.Fresh.{listed_of, job14_of, by4, by14, fresh}
 use Rattle.plan.specs.Making.{Ready}
 
 module _ (xs : List ℕ) (k : ℕ) (kind : Kind) (q : kind ≡ leads_to xs k) where
   pub leads4 : (l s len : ℕ) → kind ≡ Format4 l s len → Leads xs k 4
   leads4 l s len e = record { is = ap format_of (sym q ∙ e) }
 
-  module _ (cs gs kept map requested : List ℕ) where
-    pub fresh_4 : (l s len : ℕ) (o : Outcome) → kind ≡ Format4 l s len → o ≡ by4 (size_of4 (listed xs (length map) cs gs k)) → o ≡ fresh (job xs cs gs kept map requested) k
+module _ (j : Job) (k : ℕ) (kind : Kind) (q : kind ≡ leads_to j.source k) where
+  pub fresh_4 : (l s len : ℕ) (o : Outcome) → kind ≡ Format4 l s len → o ≡ by4 (size_of4 (listed_of j k)) → o ≡ fresh j k
+  unfolding fresh
+  fresh_4 l s len o e h = rw (← q, e) h
+
+  pub fresh_12 : (l g len : ℕ) (o : Outcome) → kind ≡ Format12 l g len → o ≡ Made (size_of12 (listed_of j k)).bytes → o ≡ fresh j k
+  unfolding fresh
+  fresh_12 l g len o e h = rw (← q, e) h
+
+  pub fresh_none : kind ≡ Unreadable → LeftOut Skipped ≡ fresh j k
+  unfolding fresh
+  fresh_none e = rw (← q, e)
+
+  module _ (n len : ℕ) (e : kind ≡ Format14 n len) where
+    pub fresh_14 : (o : Outcome) → o ≡ by14 (outcome14 (job14_of j k len)) → o ≡ fresh j k
     unfolding fresh
-    fresh_4 l s len o e h = rw (← q, e) h
+    fresh_14 o h = rw (← q, e) h
 
-    pub fresh_12 : (l g len : ℕ) (o : Outcome) → kind ≡ Format12 l g len → o ≡ Made (size_of12 (listed xs (length map) cs gs k)).bytes → o ≡ fresh (job xs cs gs kept map requested) k
-    unfolding fresh
-    fresh_12 l g len o e h = rw (← q, e) h
-
-    pub fresh_none : kind ≡ Unreadable → LeftOut Skipped ≡ fresh (job xs cs gs kept map requested) k
-    unfolding fresh
-    fresh_none e = rw (← q, e)
-
-    module _ (at n len : ℕ) (p : at ≡ offset_of xs k) (e : kind ≡ Format14 n len) where
-      pub fresh_14 : (o : Outcome) → o ≡ by14 (outcome14 (job14 xs at len kept map requested)) → o ≡ fresh (job xs cs gs kept map requested) k
-      unfolding fresh
-      fresh_14 o h = rw (← q, e) (rw p at h)
-
-      pub readable14 : (flags tocodes toglyphs : List ℕ) → Ready (job xs cs gs kept map requested) k flags tocodes toglyphs → Readable xs at len kept requested
-      unfolding leads_to
-      readable14 flags tocodes toglyphs r =
-          let t = tells14 xs at (rw (← p) at (sym q ∙ e)) in
-          record {
-            inside = t.fits;
-            records = omega (arith, t.room, t.records);
-            few = omega (arith, t.few, t.records);
-            small = r.source_small;
-            kept_rises = r.kept_rises;
-            kept_few = r.kept_few;
-            kept_low = r.kept_low;
-            requested_rises = r.requested_rises;
-          }
+pub readable14 : (xs cs gs kept map requested : List ℕ) (k : ℕ) (kind : Kind) (n len : ℕ) (flags tocodes toglyphs : List ℕ) → kind ≡ leads_to xs k → kind ≡ Format14 n len
+    → Ready (job xs cs gs kept map requested) k flags tocodes toglyphs → Readable xs (offset_of xs k) len kept requested
+unfolding leads_to
+readable14 xs cs gs kept map requested k kind n len flags tocodes toglyphs q e r =
+    let t = tells14 xs (offset_of xs k) (sym q ∙ e) in
+    record {
+      inside = t.fits;
+      records = omega (arith, t.room, t.records);
+      few = omega (arith, t.few, t.records);
+      small = r.source_small;
+      kept_rises = r.kept_rises;
+      kept_few = r.kept_few;
+      kept_low = r.kept_low;
+      requested_rises = r.requested_rises;
+    }
 
 pub ruleset freshly = (leads4, fresh_4, fresh_12, fresh_14, fresh_none, readable14)
 

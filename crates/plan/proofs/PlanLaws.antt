@@ -20,10 +20,11 @@ use Rattle.plan.specs.Making.{Ready}
 use Rattle.plan.specs.CoveredFlags.{CoveredRoom}
 use Rattle.plan.specs.Plan.{outcome_of, outcomes, plan}
 use Rattle.plan.specs.Prepared.{Prepared}
-use Rattle.plan.specs.Notes.{noted, outcomes_in, Fronted, Endings, Notebook, Leaves, Stays}
+use Rattle.plan.specs.declared.Notes.{Notes}
+use Rattle.plan.specs.Notes.{outcomes_in, Fronted, Endings, Notebook, Leaves, Stays}
 use Rattle.plan.specs.Earlier.{Earlier}
 use Rattle.laws.proofs.ReadLaws.{get_or_before, get_or_past}
-use Rattle.plan.proofs.NotedLaws.{length_noted, noted_on, row_tells, fronts_row, ends_row}
+use Rattle.plan.proofs.NotedLaws.{length_noted, noted_on, row_tells}
 use Rattle.plan.proofs.RecordNotesLaws.{fronted_same}
 use Rattle.plan.proofs.NotesLaws.{endings_start, endings_on, endings_same}
 
@@ -101,16 +102,16 @@ small_snoc os o s h = record {
 -- ---- the walk
 
 -- k of m records are worked out
-pub record Planning (j : Job) (m : ℕ) (fs ot tocs togs ns : List ℕ) (k : ℕ) : Type 0 where
+pub record Planning (j : Job) (m : ℕ) (fs ot tocs togs : List ℕ) (ns : Notes) (k : ℕ) : Type 0 where
   pub prepared : Prepared j fs ot tocs togs
   pub all : m ≡ record_count j.source
   pub within : k ≤ m
   pub told : outcomes_in k ns ≡ outcomes j k
   pub small : Small (outcomes_in k ns)
-  pub fronted : Fronted j.source (glyph_count j) j.codes j.glyphs ns
+  pub fronted : Fronted j ns
   pub endings : Endings j (outcomes_in k ns) k ns
 
-pub planning_start : (j : Job) (m : ℕ) (fs ot tocs togs ns : List ℕ) → m ≡ record_count j.source → Prepared j fs ot tocs togs → Fronted j.source (glyph_count j) j.codes j.glyphs ns
+pub planning_start : (j : Job) (m : ℕ) (fs ot tocs togs : List ℕ) (ns : Notes) → m ≡ record_count j.source → Prepared j fs ot tocs togs → Fronted j ns
     → Planning j m fs ot tocs togs ns 0
 unfolding outcomes outcomes_in
 planning_start j m fs ot tocs togs ns e p f = record {
@@ -123,38 +124,32 @@ planning_start j m fs ot tocs togs ns e p f = record {
   endings = endings_start j [] ns;
 }
 
-module _ (j : Job) (m : ℕ) (fs ot tocs togs ns : List ℕ) (k : ℕ) (l : Planning j m fs ot tocs togs ns k) where
+module _ (j : Job) (m : ℕ) (fs ot tocs togs : List ℕ) (ns : Notes) (k : ℕ) (l : Planning j m fs ot tocs togs ns k) where
   grown : (o : Outcome) → o ≡ outcome_of j (outcomes_in k ns) k → outcomes_in k ns ++ (o ∷ []) ≡ outcomes j (k + 1)
   unfolding outcomes
   grown o e = rw (add-one k, e, l.told)
 
-  noted_next : (o : Outcome) (fs' ot' tocs' togs' ns' : List ℕ) → k < m → o ≡ outcome_of j (outcomes_in k ns) k → Short o
+  -- record k has come to o, with notes left as working it out leaves them, and is noted
+  pub planning_on : (o : Outcome) (fs' ot' tocs' togs' : List ℕ) (ns' ns'' : Notes) → k < m → o ≡ outcome_of j (outcomes_in k ns) k → Short o
       → length fs' ≡ length fs → length ot' ≡ length ot → length tocs' ≡ length tocs → length togs' ≡ length togs
       → Leaves j ns ns' → Stays j (outcomes_in k ns) k o ns ns'
-      → Planning j m fs' ot' tocs' togs' (set ns' k (noted o)) (k + 1)
-  noted_next o fs' ot' tocs' togs' ns' h e s a b c d f w =
+      → ns''.outcomes ≡ set ns'.outcomes k o → ns''.fronts ≡ ns'.fronts → ns''.ends ≡ ns'.ends
+      → Planning j m fs' ot' tocs' togs' ns'' (k + 1)
+  planning_on o fs' ot' tocs' togs' ns' ns'' h e s a b c d f w q fr en =
       let inside : k < records_max = omega (arith, l.all, l.prepared.few_records) in
-      let long : k < length ns' = omega (arith, inside, f.fronted.long) in
-      let before = row_tells ns ns' k (omega arith) f.row in
-      let on : outcomes_in (k + 1) (set ns' k (noted o)) ≡ outcomes_in k ns ++ (o ∷ []) = rw (noted_on ns' k o long, before) in
-      let len = length_noted k ns (omega (arith, inside, l.fronted.long)) in
+      let long : k < length ns'.outcomes = omega (arith, inside, f.fronted.outcomes) in
+      let before = row_tells ns ns' k f.row in
+      let on : outcomes_in (k + 1) ns'' ≡ outcomes_in k ns ++ (o ∷ []) = rw (noted_on ns' ns'' k o long q, before) in
+      let len = length_noted k ns (omega (arith, inside, l.fronted.outcomes)) in
       record {
         prepared = prepared_again j fs ot tocs togs l.prepared fs' ot' tocs' togs' a b c d;
         all = l.all;
         within = omega arith;
         told = on ∙ grown o e;
         small = rw on (small_snoc (outcomes_in k ns) o l.small s);
-        fronted = fronted_same j.source (glyph_count j) j.codes j.glyphs ns' (set ns' k (noted o)) f.fronted (fronts_row ns' k (noted o) inside) (length-set ns' k (noted o));
-        endings = rw on (endings_same j (outcomes_in k ns ++ (o ∷ [])) (k + 1) ns' (set ns' k (noted o)) (ends_row ns' k (noted o) inside) (endings_on j (outcomes_in k ns) k o ns ns' len l.endings w));
+        fronted = fronted_same j ns' ns'' f.fronted (ap length q ∙ length-set ns'.outcomes k o) fr;
+        endings = rw on (endings_same j (outcomes_in k ns ++ (o ∷ [])) (k + 1) ns' ns'' en (endings_on j (outcomes_in k ns) k o ns ns' len l.endings w));
       }
-
-  -- record k has come to o, with notes left as working it out leaves them, and is noted
-  pub planning_on : (o : Outcome) (fs' ot' tocs' togs' ns' ns'' : List ℕ) → k < m → o ≡ outcome_of j (outcomes_in k ns) k → Short o
-      → length fs' ≡ length fs → length ot' ≡ length ot → length tocs' ≡ length tocs → length togs' ≡ length togs
-      → Leaves j ns ns' → Stays j (outcomes_in k ns) k o ns ns' → ns'' ≡ set ns' k (noted o)
-      → Planning j m fs' ot' tocs' togs' ns'' (k + 1)
-  planning_on o fs' ot' tocs' togs' ns' ns'' h e s a b c d f w q =
-      rw q (noted_next o fs' ot' tocs' togs' ns' h e s a b c d f w)
 
   done : m ≤ k → k ≡ records j
   done h = omega (arith, l.all, l.within)
@@ -169,7 +164,7 @@ module _ (j : Job) (m : ℕ) (fs ot tocs togs ns : List ℕ) (k : ℕ) (l : Plan
   pub planning_ended : m ≤ k → Endings j (outcomes_in (records j) ns) (records j) ns
   planning_ended h = rw (done h) at l.endings
 
-  pub planning_fronted : Fronted j.source (glyph_count j) j.codes j.glyphs ns
+  pub planning_fronted : Fronted j ns
   planning_fronted = l.fronted
 
   pub planning_ready : k < m → Ready j k fs tocs togs
@@ -188,16 +183,12 @@ module _ (j : Job) (m : ℕ) (fs ot tocs togs ns : List ℕ) (k : ℕ) (l : Plan
     fronted = l.fronted;
   }
 
-  pub planning_inside : (ns' : List ℕ) → k < m → Leaves j ns ns' → k < length ns'
-  planning_inside ns' h f = omega (arith, l.all, l.prepared.few_records, f.fronted.long)
-
 pub ruleset planning =
-    (planning_start, planning_on, planning_done, planning_small, planning_ended, planning_fronted, planning_ready, planning_rooms, planning_earlier, planning_notebook, planning_inside)
+    (planning_start, planning_on, planning_done, planning_small, planning_ended, planning_fronted, planning_ready, planning_rooms, planning_earlier, planning_notebook)
 
 -- the work room keeps its lengths
-pub record Kept (fs₀ ot₀ tocs₀ togs₀ ns₀ fs ot tocs togs ns : List ℕ) : Type 0 where
+pub record Kept (fs₀ ot₀ tocs₀ togs₀ fs ot tocs togs : List ℕ) : Type 0 where
   pub flags : length fs ≡ length fs₀
   pub others : length ot ≡ length ot₀
   pub codes : length tocs ≡ length tocs₀
   pub glyphs : length togs ≡ length togs₀
-  pub notes : length ns ≡ length ns₀

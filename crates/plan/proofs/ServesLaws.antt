@@ -12,14 +12,15 @@ use Rattle.source_records.specs.Records.{leads_to, leads_to_format, Placed}
 use Rattle.plan.specs.declared.Outcome.{Outcome}
 use Rattle.plan.specs.Outcomes.{at, is_made, serves, server}
 use Rattle.plan.specs.Sizes.{BothPlaced}
-use Rattle.plan.specs.Notes.{tells, outcomes_in}
+use Rattle.plan.specs.declared.Notes.{Notes}
+use Rattle.plan.specs.Notes.{outcomes_in}
 use Rattle.plan.proofs.NotedLaws.{at_noted}
 
-module _ (xs notes : List ℕ) (k r : ℕ) (o : Outcome) (made : Bool) (told : o ≡ tells (get_or notes r 0)) (before : r < k) (q : made ≡ is_made o) where
+module _ (xs : List ℕ) (notes : Notes) (k r : ℕ) (o : Outcome) (made : Bool) (told : o ≡ at notes.outcomes r) (before : r < k) (q : made ≡ is_made o) where
   asked : made ≡ is_made (at (outcomes_in k notes) r)
   asked = rw (at_noted k r notes before, ← told) q
 
-  pub serves_no : made ≡ false → false ≡ serves xs (outcomes_in k notes) k r
+  pub serves_no : made ≡ false → made ≡ serves xs (outcomes_in k notes) k r
   unfolding serves
   serves_no e = rw (← asked, e)
 

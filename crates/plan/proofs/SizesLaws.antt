@@ -6,7 +6,8 @@ use native.Mathlib.Omega.{arith}
 use lib.ListN.{length}
 use Rattle.laws.specs.Lists.{Pair}
 use Rattle.laws.proofs.LengthLaws.{length-map}
-use Rattle.plan_listing.specs.Listing.{listed, code_column, glyph_column}
+use Rattle.plan_listing.specs.Listing.{code_column, glyph_column}
+use Rattle.plan_listing.specs.Job.{Job}
 use Rattle.format4.specs.declared.Size4.{Size4}
 use Rattle.format4.specs.Size.{size_of4}
 use Rattle.format4.proofs.CountLaws.{fits_tells}
@@ -21,7 +22,7 @@ use Rattle.format14.specs.Format14.{outcome14}
 use Rattle.plan.specs.declared.Outcome.{Outcome}
 use Rattle.plan.specs.declared.Outcome.TheVariants.{Made}
 use Rattle.plan.specs.Sizes.{Short}
-use Rattle.plan.specs.Fresh.{by4, by14}
+use Rattle.plan.specs.Fresh.{listed_of, by4, by14}
 use Rattle.plan.specs.Making.{Short4}
 
 pub short4 : (ps : List Pair) (size : Size4) → size ≡ size_of4 ps → Short4 size
@@ -30,15 +31,15 @@ short4 ps size e = record { fits = λ n q. (fits_tells ps n (sym e ∙ q)).short
 groups_few : (ps : List Pair) → length (groups ps) ≤ length ps
 groups_few ps = omega (arith, rw (pairs_columns ps) at (length-groups (code_column ps) (glyph_column ps)), length-map (λ (p : Pair). p.0) ps)
 
-module _ (xs : List ℕ) (k n : ℕ) (cs gs fs tocs togs : List ℕ) (p : PairsRoom xs k n cs gs fs tocs togs) where
-  pub short12 : (size : Size12) → size ≡ size_of12 (listed xs n cs gs k) → Short (Made size.bytes)
+module _ (j : Job) (k : ℕ) (fs tocs togs : List ℕ) (p : PairsRoom j k fs tocs togs) where
+  pub short12 : (size : Size12) → size ≡ size_of12 (listed_of j k) → Short (Made size.bytes)
   short12 size e =
-      let b : size.bytes ≡ 16 + 12 * length (groups (listed xs n cs gs k)) = ap (λ (z : Size12). z.bytes) e in
-      let g = groups_few (listed xs n cs gs k) in
-      let l = length-listed xs n cs gs k in
+      let b : size.bytes ≡ 16 + 12 * length (groups (listed_of j k)) = ap (λ (z : Size12). z.bytes) e in
+      let g = groups_few (listed_of j k) in
+      let l = length-listed j k in
       record { below = omega (arith, b, g, l, p.few) }
 
-  pub made12 : (size : Size12) → size ≡ size_of12 (listed xs n cs gs k) → Made size.bytes ≡ Made (size_of12 (listed xs n cs gs k)).bytes
+  pub made12 : (size : Size12) → size ≡ size_of12 (listed_of j k) → Made size.bytes ≡ Made (size_of12 (listed_of j k)).bytes
   made12 size e = ap (λ (z : Size12). Made z.bytes) e
 
 -- what the size came to, by the pairs

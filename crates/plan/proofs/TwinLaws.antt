@@ -24,7 +24,8 @@ use Rattle.plan.specs.Fresh.{fresh}
 use Rattle.plan.specs.Plan.{outcomes}
 use Rattle.plan.specs.Twins.{is_covered, came_to_nothing, is_twin, twin, is_spent, spent}
 use Rattle.plan.specs.Earlier.{Earlier, Tells}
-use Rattle.plan.specs.Notes.{tells, outcomes_in}
+use Rattle.plan.specs.declared.Notes.{Notes}
+use Rattle.plan.specs.Notes.{outcomes_in}
 use Rattle.plan.proofs.NotedLaws.{at_noted}
 use Rattle.plan.proofs.KindLaws.{fresh_never, leads_alike, maps_alike, fresh_alike}
 use Rattle.plan.proofs.OutcomesLaws.{outcome_at, by_outcome, covers}
@@ -101,7 +102,7 @@ module _ (j : Job) (os : List Outcome) (k : ℕ) (e : Earlier j os k) where
       let o = eqb (offset_of j.source r) (offset_of j.source k) in
       row_spent r h (both_left n o t) ∙ fresh_alike j k r (eqb-true (offset_of j.source r) (offset_of j.source k) (both_right n o t))
 
-module _ (xs cs gs kept map requested notes : List ℕ) (k : ℕ) where
+module _ (xs cs gs kept map requested : List ℕ) (notes : Notes) (k : ℕ) where
   abbrev j : Job
   j = job xs cs gs kept map requested
 
@@ -113,7 +114,7 @@ module _ (xs cs gs kept map requested notes : List ℕ) (k : ℕ) where
     tells_covered h = record { inside = e.inside; this = h; covers = row_covered j os k e }
 
     -- what is noted of an earlier record with the same subtable, which came to nothing
-    module _ (r : ℕ) (o : Outcome) (f : o ≡ tells (get_or notes r 0)) (p : r ≡ spent xs os k) (l : r < k) where
+    module _ (r : ℕ) (o : Outcome) (f : o ≡ at notes.outcomes r) (p : r ≡ spent j.source os k) (l : r < k) where
       told : o ≡ at os r
       told = f ∙ sym (at_noted k r notes l)
 
@@ -123,8 +124,8 @@ module _ (xs cs gs kept map requested notes : List ℕ) (k : ℕ) where
       pub is_spent_lem : o ≡ fresh j k
       is_spent_lem = told ∙ spent-fresh j os k e r p l
 
-pub twin-tells : (xs : List ℕ) (n : ℕ) (kept notes : List ℕ) (k r : ℕ) (o : Outcome) (t : Bool) → Tells xs n kept (outcomes_in k notes) k → r ≡ twin xs k → r < k
-    → o ≡ tells (get_or notes r 0) → t ≡ is_covered o → t ≡ covered xs n kept k
+pub twin-tells : (xs : List ℕ) (n : ℕ) (kept : List ℕ) (notes : Notes) (k r : ℕ) (o : Outcome) (t : Bool) → Tells xs n kept (outcomes_in k notes) k → r ≡ twin xs k → r < k
+    → o ≡ at notes.outcomes r → t ≡ is_covered o → t ≡ covered xs n kept k
 unfolding twin
 twin-tells xs n kept notes k r o t w q h f e =
     let s : is_twin xs k r ≡ true = rw (← q) at (first_holds (is_twin xs k) k 0 (omega (arith, q, h))) in

@@ -11,7 +11,8 @@ use Rattle.source_header.specs.Header.{platform_of, encoding_of, offset_of, reco
 use Rattle.source_records.specs.Records.{is_pair}
 use Rattle.plan.specs.Outcomes.{at}
 use Rattle.plan.specs.declared.Outcome.{Outcome}
-use Rattle.plan.specs.Notes.{tells, outcomes_in}
+use Rattle.plan.specs.declared.Notes.{Notes}
+use Rattle.plan.specs.Notes.{outcomes_in}
 use Rattle.plan.proofs.NotedLaws.{at_noted}
 use Rattle.plan.specs.Twins.{came_to_nothing, is_twin, twin, is_spent, spent}
 use Rattle.plan.proofs.ServesLaws.{two}
@@ -20,7 +21,7 @@ module _ (xs : List ℕ) (k r : ℕ) (e : EncodingRecord) (t : Bool) (q : e ≡ 
   asked : t ≡ is_pair (platform_of xs k) (encoding_of xs k) xs r
   asked = rw q at p
 
-  pub twin_no : t ≡ false → false ≡ is_twin xs k r
+  pub twin_no : t ≡ false → t ≡ is_twin xs k r
   unfolding is_twin
   twin_no f = rw (← asked, f)
 
@@ -28,11 +29,11 @@ module _ (xs : List ℕ) (k r : ℕ) (e : EncodingRecord) (t : Bool) (q : e ≡ 
   unfolding is_twin
   twin_then at f h = rw (← asked, f, h, q)
 
-module _ (xs notes : List ℕ) (k r : ℕ) (o : Outcome) (t : Bool) (told : o ≡ tells (get_or notes r 0)) (before : r < k) (q : t ≡ came_to_nothing o) where
+module _ (xs : List ℕ) (notes : Notes) (k r : ℕ) (o : Outcome) (t : Bool) (told : o ≡ at notes.outcomes r) (before : r < k) (q : t ≡ came_to_nothing o) where
   nothing : t ≡ came_to_nothing (at (outcomes_in k notes) r)
   nothing = rw (at_noted k r notes before, ← told) q
 
-  pub spent_no : t ≡ false → false ≡ is_spent xs (outcomes_in k notes) k r
+  pub spent_no : t ≡ false → t ≡ is_spent xs (outcomes_in k notes) k r
   unfolding is_spent
   spent_no e = rw (← nothing, e)
 

@@ -20,7 +20,7 @@ held_in BadMapping = 0
 held_in (Served by) = by
 held_in (Made size) = size
 
--- it has room to be noted, and those of all records to be added up
+-- those of all records can be added up
 pub record Short (o : Outcome) : Type 0 where
   pub below : held_in o < 4294967296
 

@@ -1,6 +1,9 @@
-// No functions: what becomes of each record of a source, the table that it makes, which earlier table serves it, what refusals 8 and 9 ask,
-// and where a plan is noted in lent numbers.
+// What becomes of each record of a source, the table that it makes, which earlier table serves it, what refusals 8 and 9 ask,
+// and what a plan notes.
 #![tactic(auto)]
+
+ghost use Rattle.std.specs.Prelude.{◌≡◌, ◌≤◌, length, replicate};
+ghost use Rattle.number.specs.Limits.{records_max};
 
 use number::limits::{RECORDS_MAX, TABLES_MAX};
 
@@ -23,11 +26,25 @@ pub enum Outcome {
     Made(usize),
 }
 
-// Notes begin with a number for each record, which tells its outcome.
-// From here on they tell how many listed pairs of a record are the first of the lent columns,
-pub const FRONTS: usize = RECORDS_MAX;
+// What a plan notes: the outcome of each record, how many listed pairs of it are the first of the lent columns, and how far the tables of
+// the new format 14 subtable stand from its end.
+#[derive(Clone, Copy)]
+pub struct Notes {
+    pub outcomes: [Outcome; RECORDS_MAX],
+    pub fronts: [usize; RECORDS_MAX],
+    pub ends: [usize; TABLES_MAX],
+}
 
-// and from here on how far the tables of the new format 14 subtable stand from its end.
-pub const ENDS: usize = 2 * RECORDS_MAX;
-
-pub const NOTES: usize = 2 * RECORDS_MAX + TABLES_MAX;
+impl Notes {
+    // Nothing is noted yet.
+    pub fn new() -> Self
+        ensures outcomes { records_max ≤ length result.outcomes }
+        ensures fronts { result.fronts ≡ replicate 64 0 }
+    {
+        Notes {
+            outcomes: [Outcome::LeftOut(Why::NotRetained); RECORDS_MAX],
+            fronts: [0; RECORDS_MAX],
+            ends: [0; TABLES_MAX],
+        }
+    }
+}

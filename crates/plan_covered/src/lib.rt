@@ -1,32 +1,19 @@
 // Whether a format 12 record is covered by its sibling, and so may be left out.
 #![tactic(auto)]
 
-ghost use Rattle.std.specs.Prelude.{◌≡◌, ◌≤◌, length, eqb, not};
+ghost use Rattle.std.specs.Prelude.{◌≡◌, ◌≤◌, length};
 ghost use Rattle.laws.specs.Select.{any_of};
 ghost use Rattle.source_records.specs.Records.{Placed};
 ghost use Rattle.plan_listing.specs.Listing.{maps, PointsFlagged};
 ghost use Rattle.plan.specs.Covered.{reaches_above, sibling_covers, covered};
 ghost use Rattle.plan.specs.CoveredFlags.{some_set, flags_differ, CoveredRoom};
 
-fn is_set(flag: u8) -> bool
-    ensures { result ≡ not (eqb flag 0) }
-{
-    flag != 0
-}
-
 // Whether one of the first n flags is set.
 fn some_set(flags: &[u8], n: usize) -> bool
     requires { n ≤ length flags.now }
     ensures { result ≡ some_set flags.now n }
 {
-    let mut i = 0;
-    while i < n {
-        if is_set(flags[i]) {
-            return true;
-        }
-        i += 1;
-    }
-    false
+    laws::some(n, |i| flags[i] != 0)
 }
 
 // Whether the subtable of record k maps one of the points.
@@ -52,25 +39,12 @@ fn reaches_above(s: &[u8], k: usize, n: u32, kept: &[u32], flags: &mut [u8]) -> 
     false
 }
 
-fn is_other(flag: u8, other: u8) -> bool
-    ensures { result ≡ not (eqb flag other) }
-{
-    flag != other
-}
-
 // Whether two of the first n flags are not the same.
 fn flags_differ(flags: &[u8], others: &[u8], n: usize) -> bool
     requires { (n ≤ length flags.now) × (n ≤ length others.now) }
     ensures { result ≡ flags_differ flags.now others.now n }
 {
-    let mut i = 0;
-    while i < n {
-        if is_other(flags[i], others[i]) {
-            return true;
-        }
-        i += 1;
-    }
-    false
+    laws::some(n, |i| flags[i] != others[i])
 }
 
 // Whether the first sibling of record k, of m, maps the same kept points, all below 0x10000.
@@ -111,8 +85,5 @@ pub fn can_drop_format12(
     requires { CoveredRoom s.now m k n kept.now flags.old others.old }
     ensures { result ≡ covered s.now n kept.now k }
 {
-    if source_records::leads_to_format(s, k, 12) {
-        return sibling_covers(s, m, k, n, kept, flags, others);
-    }
-    false
+    source_records::leads_to_format(s, k, 12) && sibling_covers(s, m, k, n, kept, flags, others)
 }

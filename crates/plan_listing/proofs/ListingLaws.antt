@@ -1,14 +1,16 @@
 -- What the kind of a subtable says of the points it maps, and the listed pairs as two columns.
-use Prim.Native.Nat.{ℕ, ◌<◌, ◌≤◌}
+use Prim.Native.Nat.{ℕ, suc, ◌<◌, ◌≤◌}
 use mathlib.Core.Path.{◌≡◌, refl, sym, ap, ◌∙◌}
-use mathlib.Core.List.{List}
+use mathlib.Core.List.{List, [], ◌∷◌}
+use mathlib.Core.Bool.{Bool, true, false}
 use native.Mathlib.Omega.{arith}
-use lib.ListN.{length, replicate}
-use lib.Seq.{sets, length-sets}
+use lib.Dec.{eqb}
+use lib.ListN.{length, take, replicate}
+use lib.Seq.{sets, length-sets, length-take-le}
 use Rattle.laws.specs.Lists.{Pair, pairs, keep}
-use Rattle.laws.proofs.PairsLaws.{firsts_pairs, seconds_pairs, keep-pairs, length-keep}
-use Rattle.laws.proofs.LengthLaws.{length-map}
-use Rattle.laws.proofs.TakeLaws.{take_counts}
+use Rattle.laws.proofs.PairsLaws.{firsts_pairs, seconds_pairs, keep-pairs}
+use Rattle.laws.proofs.SetsLaws.{take-sets}
+use Rattle.laws.specs.Choice.{pick}
 use Rattle.number.specs.BigEndian.{Bytes}
 use Rattle.source.specs.declared.Kind.{Kind}
 use Rattle.source.specs.declared.Kind.TheVariants.{Format4, Format12, Format14, Unreadable}
@@ -18,12 +20,12 @@ use Rattle.source.specs.Kind.{kind_at}
 use Rattle.source.specs.Room.{Room4, Room12}
 use Rattle.source_records.specs.Records.{leads_to}
 use Rattle.source.proofs.KindLaws.{room4, room12}
-use Rattle.lists_marks.specs.Marks.{flagged, kept, front_of, Flags}
+use Rattle.lists_marks.specs.Marks.{flagged, kept, front_of, Flags, CopyRoom}
 use Rattle.lists_marks.proofs.MarksLaws.{flagged_none, kept_sets}
 use Rattle.lists_marks.proofs.LeadingLaws.{kept_front}
 use Rattle.format4_mapped.specs.Mapped4.{maps4}
 use Rattle.format12_mapped.specs.Mapped12.{maps12}
-use Rattle.plan_listing.specs.Listing.{maps_as, maps, listed, code_column, glyph_column, KindFlagged, PointsFlagged, ColumnsWithRoom, ListedCount, Copied}
+use Rattle.plan_listing.specs.Listing.{maps_as, maps, listed, code_column, glyph_column, KindFlagged, PointsFlagged, ColumnsWithRoom, FrontOfColumns}
 
 -- ---- by kind
 
@@ -61,6 +63,47 @@ pub ruleset by_record = (asked_record, flags_record)
 
 pub ruleset by_kind = (flags4, flags12, flags14, flags_none)
 
+-- ---- what is copied by flags
+
+kept_even : (fs cs gs : List ℕ) → length cs ≡ length gs → length (kept fs cs) ≡ length (kept fs gs)
+unfolding kept
+kept_even [] cs gs e = refl
+kept_even (f ∷ fs) [] [] e = refl
+kept_even (f ∷ fs) [] (g ∷ gs) e = absurd (omega arith)
+kept_even (f ∷ fs) (c ∷ cs) [] e = absurd (omega arith)
+kept_even (f ∷ fs) (c ∷ cs) (g ∷ gs) e = go (eqb f 0) (kept fs cs) (kept fs gs) (kept_even fs cs gs (omega arith))
+  where
+    go : (t : Bool) (k l : List ℕ) → length k ≡ length l → length (pick t k (c ∷ k)) ≡ length (pick t l (g ∷ l))
+    go true k l h = h
+    go false k l h = ap suc h
+
+kept_few : (fs cs : List ℕ) → length (kept fs cs) ≤ length cs
+unfolding kept
+kept_few [] cs = omega arith
+kept_few (f ∷ fs) [] = omega arith
+kept_few (f ∷ fs) (c ∷ cs) = go (eqb f 0) (kept fs cs) (kept_few fs cs)
+  where
+    go : (t : Bool) (k : List ℕ) → length k ≤ length cs → length (pick t k (c ∷ k)) ≤ suc (length cs)
+    go true k h = omega arith
+    go false k h = omega arith
+
+module _ (fs cs gs tocs togs : List ℕ) (c : CopyRoom fs cs gs tocs togs) (n : ℕ) (e : n ≡ length (kept fs cs)) (out : List ℕ) where
+  pub copied_codes : out ≡ sets tocs 0 (kept fs cs) → take n out ≡ kept fs cs
+  copied_codes o = rw (o, e) (take-sets tocs (kept fs cs) (omega (arith, kept_few fs cs, c.code_room)))
+
+  pub copied_glyphs : out ≡ sets togs 0 (kept fs gs) → take n out ≡ kept fs gs
+  copied_glyphs o =
+      let h = kept_even fs cs gs c.even in
+      rw (o, e, h) (take-sets togs (kept fs gs) (omega (arith, h, kept_few fs cs, c.glyph_room)))
+
+  pub codes_there : out ≡ sets tocs 0 (kept fs cs) → n ≡ length (take n out)
+  codes_there o = e ∙ ap length (sym (copied_codes o))
+
+  pub glyphs_there : out ≡ sets togs 0 (kept fs gs) → n ≡ length (take n out)
+  glyphs_there o = e ∙ kept_even fs cs gs c.even ∙ ap length (sym (copied_glyphs o))
+
+pub ruleset by_copying = (copied_codes, copied_glyphs, codes_there, glyphs_there)
+
 -- ---- two columns
 
 -- the columns of the pairs that are listed: ms are the flags that say what the subtable maps, fs those before
@@ -76,44 +119,43 @@ module _ (xs : List ℕ) (k n : ℕ) (cs gs fs ms tocs togs : List ℕ)
   unfolding listed
   kept-pairs = rw (kept_is cs (omega arith), kept_is gs (omega (arith, c.even))) (keep-pairs (maps xs n k) cs gs c.even)
 
-  kept_even : length (kept ms cs) ≡ length (kept ms gs)
-  kept_even = rw (kept_is cs (omega arith), kept_is gs (omega (arith, c.even))) (length-keep (maps xs n k) cs gs c.even)
+  sides : length (kept ms cs) ≡ length (kept ms gs)
+  sides = kept_even ms cs gs c.even
 
-  kept_codes : kept ms cs ≡ code_column L
-  kept_codes = sym (firsts_pairs (kept ms cs) (kept ms gs) kept_even) ∙ ap code_column kept-pairs
+  pub listed_codes : (ds : List ℕ) → ds ≡ kept ms cs → ds ≡ code_column L
+  listed_codes ds e = e ∙ sym (firsts_pairs (kept ms cs) (kept ms gs) sides) ∙ ap code_column kept-pairs
 
-  kept_glyphs : kept ms gs ≡ glyph_column L
-  kept_glyphs = sym (seconds_pairs (kept ms cs) (kept ms gs) kept_even) ∙ ap glyph_column kept-pairs
-
-  pub listed_count : (m : ℕ) → m ≡ length (kept ms cs) → m ≡ length L
-  listed_count m e = e ∙ ap length kept_codes ∙ length-map (λ (p : Pair). p.0) L
-
-  pub listed_codes : (out : List ℕ) → out ≡ sets tocs 0 (kept ms cs) → out ≡ sets tocs 0 (code_column L)
-  listed_codes out e = e ∙ ap (sets tocs 0) kept_codes
-
-  pub listed_glyphs : (out : List ℕ) → out ≡ sets togs 0 (kept ms gs) → out ≡ sets togs 0 (glyph_column L)
-  listed_glyphs out e = e ∙ ap (sets togs 0) kept_glyphs
+  pub listed_glyphs : (hs : List ℕ) → hs ≡ kept ms gs → hs ≡ glyph_column L
+  listed_glyphs hs e = e ∙ sym (seconds_pairs (kept ms cs) (kept ms gs) sides) ∙ ap glyph_column kept-pairs
 
   flags_there : length cs ≤ length ms
   flags_there = rw (q, length-sets fs 0 (flagged (maps xs n k) cs)) b.flagged.beside
 
-  pub listed_front : (r : ℕ) → r ≡ front_of ms (length cs) → r ≤ length cs → 0 < r → ListedCount L cs gs r r
-  listed_front r e w h =
+  pub listed_room : CopyRoom ms cs gs tocs togs
+  listed_room = record { even = c.even; flags = flags_there; code_room = c.codes; glyph_room = omega (arith, c.even, c.glyphs) }
+
+  pub listed_front : (r : ℕ) → r ≡ front_of ms (length cs) → r ≤ length cs → FrontOfColumns L cs gs r
+  listed_front r e w =
       let there = flags_there in
-      let x = kept_front ms cs (length cs) r refl there e h in
-      let y = kept_front ms gs (length cs) r (sym c.even) there e h in
       record {
-        counted = take_counts r cs w ∙ ap length (sym x) ∙ listed_count (length (kept ms cs)) refl;
-        first = record { within = w; is = λ z. sym kept-pairs ∙ rw (x, y) };
+        within = w;
+        is = λ h. sym kept-pairs ∙ rw (kept_front ms cs (length cs) r refl there e h, kept_front ms gs (length cs) r (sym c.even) there e h);
       }
 
-  pub front_copies : (r : ℕ) → 0 < r → Copied L r tocs togs tocs togs
-  front_copies r h = record { codes = λ e. absurd (omega arith); glyphs = λ e. absurd (omega arith) }
+pub ruleset by_listed = (listed_codes, listed_glyphs, listed_room, listed_front)
 
-  pub listed_none : (m : ℕ) → m ≡ length (kept ms cs) → ListedCount L cs gs m 0
-  listed_none m e = record { counted = listed_count m e; first = record { within = omega arith; is = λ z. absurd (omega arith) } }
+-- the pairs are the first of two columns
+module _ (L : List Pair) (cs gs : List ℕ) (front : ℕ) (f : FrontOfColumns L cs gs front) (even : length cs ≡ length gs) where
+  front_glyphs : front ≤ length gs
+  front_glyphs = omega (arith, f.within, even)
 
-  pub listed_copies : (ncs ngs : List ℕ) → ncs ≡ sets tocs 0 (kept ms cs) → ngs ≡ sets togs 0 (kept ms gs) → Copied L 0 tocs togs ncs ngs
-  listed_copies ncs ngs x y = record { codes = λ e. listed_codes ncs x; glyphs = λ e. listed_glyphs ngs y }
+  front_even : length (take front cs) ≡ length (take front gs)
+  front_even = length-take-le front cs f.within ∙ sym (length-take-le front gs front_glyphs)
 
-pub ruleset by_listed = (listed_count, listed_codes, listed_glyphs, listed_front, front_copies, listed_none, listed_copies)
+  pub first_codes : 0 < front → (ds : List ℕ) → ds ≡ take front cs → ds ≡ code_column L
+  first_codes h ds e = e ∙ sym (firsts_pairs (take front cs) (take front gs) front_even) ∙ ap code_column (sym (f.is h))
+
+  pub first_glyphs : 0 < front → (hs : List ℕ) → hs ≡ take front gs → hs ≡ glyph_column L
+  first_glyphs h hs e = e ∙ sym (seconds_pairs (take front cs) (take front gs) front_even) ∙ ap glyph_column (sym (f.is h))
+
+pub ruleset by_front = (first_codes, first_glyphs)

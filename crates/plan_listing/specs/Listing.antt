@@ -1,6 +1,5 @@
 -- Which code points a record's subtable maps, and the listed pairs among them (docs/RULES.md, "Which code points a subtable maps").
 use Rattle.std.specs.Prelude.{ℕ, ◌<◌, ◌≤◌, length, take, ◌≡◌, List, map, Bool, false}
-use Rattle.std.proofs.lemmas.List.Edits.{sets}
 use Rattle.laws.specs.Lists.{Pair, pairs}
 use Rattle.laws.specs.Select.{select}
 use Rattle.source.specs.declared.Kind.{Kind}
@@ -56,13 +55,3 @@ pub record ColumnsWithRoom (cs gs tocs togs : List ℕ) : Type 0 where
 pub record FrontOfColumns (L : List Pair) (cs gs : List ℕ) (front : ℕ) : Type 0 where
   pub within : front ≤ length cs
   pub is : 0 < front → L ≡ pairs (take front cs) (take front gs)
-
--- how many pairs are listed, and how many of the columns' first ones they are; 0 where they are not the first ones, or there are none
-pub record ListedCount (L : List Pair) (cs gs : List ℕ) (count front : ℕ) : Type 0 where
-  pub counted : count ≡ length L
-  pub first : FrontOfColumns L cs gs front
-
--- those that are not the first ones are copied to the front of two other columns
-pub record Copied (L : List Pair) (front : ℕ) (tocs togs ncs ngs : List ℕ) : Type 0 where
-  pub codes : front ≡ 0 → ncs ≡ sets tocs 0 (code_column L)
-  pub glyphs : front ≡ 0 → ngs ≡ sets togs 0 (glyph_column L)

@@ -1,32 +1,33 @@
--- What format 12 asks of columns that hold the listed pairs, and what their size tells.
+-- What format 12 asks of two columns of the listed pairs, and what their size tells.
 use Prim.Native.Nat.{ℕ, ◌+◌, ◌≤◌}
 use mathlib.Core.Path.{◌≡◌, sym, ap, ◌∙◌}
 use mathlib.Core.List.{List}
-use lib.ListN.{length, take}
+use lib.ListN.{length}
 use lib.Seq.{sets}
 use Rattle.laws.specs.Lists.{Pair, pairs}
 use Rattle.format12.proofs.TableLaws.{length_table}
 use Rattle.format12.specs.declared.Size12.{Size12}
 use Rattle.format12.specs.Format12.{format12, groups, size_of12, Columns, GroupsRoom}
-use Rattle.plan.specs.Making.{Front}
-use Rattle.plan.proofs.MakingLaws.{front_even, front_few, Holds}
+use Rattle.plan_listing.specs.Job.{Job}
+use Rattle.plan_listing.specs.Listing.{code_column, glyph_column}
+use Rattle.plan.specs.Fresh.{listed_of}
+use Rattle.plan.specs.Making.{PairsRoom}
+use Rattle.plan.proofs.MakingLaws.{columns_pairs, columns_even, columns_few}
 
-pub front12 : (m : ℕ) (cs gs : List ℕ) → Front m cs gs → Columns (take m cs) (take m gs)
-front12 m cs gs f = record { even = sym (front_even m cs gs f); few = front_few m cs gs f }
+pub columns12 : (j : Job) (k : ℕ) (fs tocs togs : List ℕ) → PairsRoom j k fs tocs togs
+    → (ds hs : List ℕ) → (ds ≡ code_column (listed_of j k)) × (hs ≡ glyph_column (listed_of j k)) → Columns ds hs
+columns12 j k fs tocs togs p ds hs e = record { even = sym (columns_even (listed_of j k) ds hs e); few = columns_few j k fs tocs togs p ds e.0 }
 
-module _ {m : ℕ} {cs gs : List ℕ} {L : List Pair} (h : Holds m cs gs L) where
-  pub is_size12 : (r : Size12) → r ≡ size_of12 (pairs (take m cs) (take m gs)) → r ≡ size_of12 L
-  is_size12 r e = e ∙ ap (λ (l : List Pair). size_of12 l) h.is
+module _ (ps : List Pair) (ds hs : List ℕ) (e : (ds ≡ code_column ps) × (hs ≡ glyph_column ps)) where
+  pub sized12 : (r : Size12) → r ≡ size_of12 (pairs ds hs) → r ≡ size_of12 ps
+  sized12 r h = h ∙ ap (λ (l : List Pair). size_of12 l) (columns_pairs ps ds hs e)
 
-  pub asks_room12 : (language at l : ℕ) → at + length (format12 language L) ≤ l → at + length (format12 language (pairs (take m cs) (take m gs))) ≤ l
-  asks_room12 language at l f = rw h.is f
+  pub groups_room : (language at l : ℕ) → at + length (format12 language ps) ≤ l → (r : Size12) → r ≡ size_of12 (pairs ds hs) → GroupsRoom (pairs ds hs) r.groups at l
+  groups_room language at l f r h =
+      let g : r.groups ≡ length (groups (pairs ds hs)) = ap (λ (z : Size12). z.groups) h in
+      record { found = g; fits = rw (g, columns_pairs ps ds hs e) (rw (length_table 12 language (groups ps)) at f) }
 
-  pub wrote12 : (language at : ℕ) (out next : List ℕ) → next ≡ sets out at (format12 language (pairs (take m cs) (take m gs))) → next ≡ sets out at (format12 language L)
-  wrote12 language at out next e = rw h.is at e
+  pub wrote12 : (language at : ℕ) (out next : List ℕ) → next ≡ sets out at (format12 language (pairs ds hs)) → next ≡ sets out at (format12 language ps)
+  wrote12 language at out next h = rw (columns_pairs ps ds hs e) at h
 
-pub ruleset made12 = (is_size12, asks_room12, wrote12)
-
-pub groups_room : (L : List Pair) (language at l : ℕ) → at + length (format12 language L) ≤ l → (r : Size12) → r ≡ size_of12 L → GroupsRoom L r.groups at l
-groups_room L language at l f r h =
-    let g : r.groups ≡ length (groups L) = ap (λ (z : Size12). z.groups) h in
-    record { found = g; fits = rw g (rw (length_table 12 language (groups L)) at f) }
+pub ruleset made12 = (columns12, sized12, groups_room, wrote12)

@@ -1,94 +1,45 @@
--- The columns that hold the listed pairs of a format 4, and what their size tells.
-use Prim.Native.Nat.{ℕ, ◌+◌, ◌<◌, ◌≤◌}
+-- What format 4 asks of two columns of the listed pairs, and what their size tells.
+use Prim.Native.Nat.{ℕ, ◌+◌, ◌≤◌}
 use mathlib.Core.Path.{◌≡◌, sym, ap, ◌∙◌}
 use mathlib.Core.List.{List}
-use native.Mathlib.Omega.{arith}
-use lib.ListN.{length, get_or, take}
 use lib.Seq.{sets}
 use Rattle.laws.specs.Lists.{Pair, pairs}
-use Rattle.laws.proofs.PairsLaws.{firsts_pairs}
-use Rattle.number.specs.BigEndian.{Bytes}
-use Rattle.plan_listing.specs.Listing.{listed, code_column, glyph_column, ListedCount, Copied}
+use Rattle.plan_listing.specs.Job.{Job, glyph_count}
+use Rattle.plan_listing.specs.Listing.{code_column, glyph_column}
 use Rattle.format4.specs.declared.RangeCounter.{RangeCounter}
 use Rattle.format4.specs.declared.Size4.{Size4}
-use Rattle.format4.specs.declared.Size4.TheVariants.{Empty, TooLong, Fits}
+use Rattle.format4.specs.declared.Size4.TheVariants.{Fits}
 use Rattle.format4.specs.Format4.{format4}
 use Rattle.format4.specs.Size.{size_of4, length_of4, Columns16}
-use Rattle.plan.specs.Making.{PairsRoom, Leads, Fronts}
+use Rattle.plan.specs.Fresh.{listed_of}
+use Rattle.plan.specs.Making.{PairsRoom, Leads}
 use Rattle.plan.proofs.BelowLaws.{listed_below}
-use Rattle.plan.proofs.MakingLaws.{front_even, front_few, Holds, copied, lent, first, rest}
-use Rattle.plan_make4.specs.Fits4.{Fits4}
+use Rattle.plan.proofs.MakingLaws.{columns_pairs, columns_even, columns_few}
+use Rattle.plan_make4.specs.Fits4.{Fits4, OfBytes}
 
--- the source is bytes, as one fact
-pub record Known (xs : List ℕ) : Type 0 where
-  pub bytes : Bytes xs
+pub columns16 : (j : Job) (k : ℕ) (fs tocs togs : List ℕ) → PairsRoom j k fs tocs togs → OfBytes j.source → Leads j.source k 4
+    → (ds hs : List ℕ) → (ds ≡ code_column (listed_of j k)) × (hs ≡ glyph_column (listed_of j k)) → Columns16 ds hs
+columns16 j k fs tocs togs p y l ds hs e =
+    record {
+      even = columns_even (listed_of j k) ds hs e;
+      few = columns_few j k fs tocs togs p ds e.0;
+      low = rw e.0 (listed_below j.source (glyph_count j) j.codes j.glyphs k y.bytes l);
+    }
 
-pub known : {xs : List ℕ} {k n : ℕ} {cs gs fs tocs togs : List ℕ} → PairsRoom xs k n cs gs fs tocs togs → Bytes xs → Known xs
-known p y = record { bytes = y }
+module _ (ps : List Pair) (ds hs : List ℕ) (e : (ds ≡ code_column ps) × (hs ≡ glyph_column ps)) where
+  pub sized4 : (r : Size4) → r ≡ size_of4 (pairs ds hs) → r ≡ size_of4 ps
+  sized4 r h = h ∙ ap size_of4 (columns_pairs ps ds hs e)
 
-module _ {m : ℕ} {cs gs : List ℕ} {L : List Pair} (h : Holds m cs gs L) where
-  pub is_size4 : (r : Size4) → r ≡ size_of4 (pairs (take m cs) (take m gs)) → r ≡ size_of4 L
-  is_size4 r e = e ∙ ap size_of4 h.is
-
-  pub asks_fits4 : (at l : ℕ) → Fits4 L at l → Fits4 (pairs (take m cs) (take m gs)) at l
-  asks_fits4 at l f = rw h.is f
-
-  pub wrote4 : (language at : ℕ) (out next : List ℕ) → next ≡ sets out at (format4 language (pairs (take m cs) (take m gs))) → next ≡ sets out at (format4 language L)
-  wrote4 language at out next e = rw h.is at e
-
-  low : ((i : ℕ) → get_or (code_column L) i 0 < 65536) → Columns16 (take m cs) (take m gs)
-  low u =
-      let even = front_even m cs gs h.front in
-      let codes : take m cs ≡ code_column L = sym (firsts_pairs (take m cs) (take m gs) even) ∙ ap code_column h.is in
-      record { even = even; few = front_few m cs gs h.front; low = λ i. rw codes (u i) }
-
-module _ (xs : List ℕ) (k n : ℕ) (cs gs fs tocs togs : List ℕ) (p : PairsRoom xs k n cs gs fs tocs togs) (y : Known xs) (l : Leads xs k 4) where
-  abbrev L : List Pair
-  L = listed xs n cs gs k
-
-  listed_low : {m : ℕ} {cs' gs' : List ℕ} → Holds m cs' gs' L → Columns16 (take m cs') (take m gs')
-  listed_low h = low h (listed_below xs n cs gs k y.bytes l)
-
-  pub copied_low : (ncs ngs : List ℕ) (m : ℕ) → m ≡ length L → ncs ≡ sets tocs 0 (code_column L) → ngs ≡ sets togs 0 (glyph_column L) → Columns16 (take m ncs) (take m ngs)
-  copied_low ncs ngs m e a b = listed_low (copied xs k n cs gs fs tocs togs p ncs ngs m e a b)
-
-  pub lent_low : (front : ℕ) → Fronts xs n cs gs k front → 0 < front → Columns16 (take front cs) (take front gs)
-  lent_low front f h = listed_low (lent xs k n cs gs fs tocs togs p front f h)
-
-  module _ (count front : ℕ) (s : ListedCount L cs gs count front) where
-    pub first_low : 0 < front → Columns16 (take front cs) (take front gs)
-    first_low h = listed_low (first xs k n cs gs fs tocs togs p count front s h)
-
-    pub rest_low : (ncs ngs : List ℕ) → Copied L front tocs togs ncs ngs → front ≤ 0 → Columns16 (take count ncs) (take count ngs)
-    rest_low ncs ngs c h = listed_low (rest xs k n cs gs fs tocs togs p count front s ncs ngs c h)
-
-pub ruleset made4 = (is_size4, asks_fits4, wrote4, copied_low, lent_low, first_low, rest_low)
-
--- ---- what a size tells
-
-module _ (L : List Pair) (at l : ℕ) (f : Fits4 L at l) (r : Size4) (h : r ≡ size_of4 L) where
-  fitted : r ≡ Fits f.counter
-  fitted = h ∙ f.is
-
-  pub fits_room : (counter : RangeCounter) → r ≡ Fits counter → at + length_of4 counter ≤ l
-  fits_room counter e =
-      let z : Fits f.counter ≡ Fits counter = sym fitted ∙ e in
-      let y : f.counter ≡ counter = cc in
+  pub fits_room : (at l : ℕ) → Fits4 ps at l → (r : Size4) → r ≡ size_of4 (pairs ds hs) → (n : RangeCounter) → r ≡ Fits n → at + length_of4 n ≤ l
+  fits_room at l f r h n q =
+      let z : Fits f.counter ≡ Fits n = sym f.is ∙ sym (sized4 r h) ∙ q in
+      let y : f.counter ≡ n = cc in
       rw y at f.room
 
-  pub fits_size : (counter : RangeCounter) → r ≡ Fits counter → size_of4 L ≡ Fits counter
-  fits_size counter e = sym h ∙ e
+  pub wrote4 : (language at : ℕ) (out next : List ℕ) → next ≡ sets out at (format4 language (pairs ds hs)) → next ≡ sets out at (format4 language ps)
+  wrote4 language at out next h = rw (columns_pairs ps ds hs e) at h
 
-  pub not_empty : {A : Type 0} (a b : A) → r ≡ Empty → a ≡ b
-  not_empty a b e =
-      let z : Fits f.counter ≡ Empty = sym fitted ∙ e in
-      let y : ◌≡◌ {A = ℕ} 0 1 = cc in
-      absurd (omega arith)
+  pub not_unfit : (at l : ℕ) → Fits4 ps at l → (r : Size4) → r ≡ size_of4 (pairs ds hs) → ((n : RangeCounter) → r ≡ Fits n → ⊥) → {A : Type 0} (a b : A) → a ≡ b
+  not_unfit at l f r h no_fit a b = absurd (no_fit f.counter (sized4 r h ∙ f.is))
 
-  pub not_long : {A : Type 0} (a b : A) → r ≡ TooLong → a ≡ b
-  not_long a b e =
-      let z : Fits f.counter ≡ TooLong = sym fitted ∙ e in
-      let y : ◌≡◌ {A = ℕ} 0 1 = cc in
-      absurd (omega arith)
-
-pub ruleset measured = (fits_room, fits_size, not_empty, not_long)
+pub ruleset made4 = (columns16, sized4, fits_room, wrote4)

@@ -12,17 +12,8 @@ use Rattle.source_records.specs.Records.{leads_to, Counted}
 use Rattle.source_records.proofs.RecordsLaws.{placed}
 use Rattle.plan.specs.Sibling.{sibling_pair, language_of, speaks, is_sibling, first_sibling}
 
-module _ (wanted language : ℕ) (kind : Kind) where
-  pub speaks4 : (s len : ℕ) → kind ≡ Format4 language s len → eqb language wanted ≡ speaks wanted kind
-  speaks4 s len e = rw e
-
-  pub speaks12 : (g len : ℕ) → kind ≡ Format12 language g len → eqb language wanted ≡ speaks wanted kind
-  speaks12 g len e = rw e
-
-pub ruleset speaking = (speaks4, speaks12)
-
 module _ (xs : List ℕ) (k i : ℕ) (t : Bool) where
-  pub sibling_no : t ≡ sibling_pair xs k i → t ≡ false → false ≡ is_sibling xs k i
+  pub sibling_no : t ≡ sibling_pair xs k i → t ≡ false → t ≡ is_sibling xs k i
   unfolding is_sibling
   sibling_no q e = rw (← q, e)
 
@@ -32,10 +23,3 @@ module _ (xs : List ℕ) (k i : ℕ) (t : Bool) where
   sibling_then a b wanted r q e ha hw hb hr = rw (← q, e, ← ha, ← hw, ← hb) hr
 
 pub ruleset sibling = (sibling_no, sibling_then)
-
--- the search for the first of n records
-pub sibling_start : (xs : List ℕ) (n k : ℕ) → Counted xs n → Finding (is_sibling xs k) n 0 (first_sibling xs k)
-unfolding first_sibling
-sibling_start xs n k c = rw c.is (looking_start (is_sibling xs k) (record_count xs))
-
-pub ruleset sibling_search = (sibling_start, looks, placed)

@@ -12,21 +12,8 @@ fn language_of(kind: Kind) -> u32
     ensures { result ≡ language_of kind }
 {
     match kind {
-        Kind::Format4 {
-            language,
-            segments: _,
-            length: _,
-        } => language,
-        Kind::Format12 {
-            language,
-            groups: _,
-            length: _,
-        } => language,
-        Kind::Format14 {
-            records: _,
-            length: _,
-        } => 0,
-        Kind::Unreadable => 0,
+        Kind::Format4 { language, .. } | Kind::Format12 { language, .. } => language,
+        Kind::Format14 { .. } | Kind::Unreadable => 0,
     }
 }
 
@@ -34,21 +21,8 @@ fn has_language(wanted: u32, kind: Kind) -> bool
     ensures { result ≡ speaks wanted kind }
 {
     match kind {
-        Kind::Format4 {
-            language,
-            segments: _,
-            length: _,
-        } => language == wanted,
-        Kind::Format12 {
-            language,
-            groups: _,
-            length: _,
-        } => language == wanted,
-        Kind::Format14 {
-            records: _,
-            length: _,
-        } => false,
-        Kind::Unreadable => false,
+        Kind::Format4 { language, .. } | Kind::Format12 { language, .. } => language == wanted,
+        Kind::Format14 { .. } | Kind::Unreadable => false,
     }
 }
 
@@ -57,10 +31,7 @@ fn both_pairs(s: &[u8], k: usize, i: usize, platform: u32, full: u32, bmp: u32) 
     requires placed_2 { Placed s.now i }
     ensures { result ≡ both (is_pair platform full s.now k) (is_pair platform bmp s.now i) }
 {
-    if source_records::is_pair(s, k, platform, full) {
-        return source_records::is_pair(s, i, platform, bmp);
-    }
-    false
+    source_records::is_pair(s, k, platform, full) && source_records::is_pair(s, i, platform, bmp)
 }
 
 fn sibling_pair(s: &[u8], k: usize, i: usize) -> bool
@@ -68,10 +39,7 @@ fn sibling_pair(s: &[u8], k: usize, i: usize) -> bool
     requires placed_2 { Placed s.now i }
     ensures { result ≡ sibling_pair s.now k i }
 {
-    if both_pairs(s, k, i, 0, 4, 3) {
-        return true;
-    }
-    both_pairs(s, k, i, 3, 10, 1)
+    both_pairs(s, k, i, 0, 4, 3) || both_pairs(s, k, i, 3, 10, 1)
 }
 
 // Whether record i is of the pair and language that may cover record k.
@@ -80,11 +48,8 @@ fn is_sibling(s: &[u8], k: usize, i: usize) -> bool
     requires placed_2 { Placed s.now i }
     ensures { result ≡ is_sibling s.now k i }
 {
-    if sibling_pair(s, k, i) {
-        let wanted = language_of(source_records::leads_to(s, k));
-        return has_language(wanted, source_records::leads_to(s, i));
-    }
-    false
+    let wanted = language_of(source_records::leads_to(s, k));
+    sibling_pair(s, k, i) && has_language(wanted, source_records::leads_to(s, i))
 }
 
 // The first such record of the first n; n where there is none.
@@ -93,12 +58,5 @@ pub fn first_sibling(s: &[u8], n: usize, k: usize) -> usize
     requires k_lt_n { k < n }
     ensures { result ≡ first_sibling s.now k }
 {
-    let mut i = 0;
-    while i < n {
-        if is_sibling(s, k, i) {
-            return i;
-        }
-        i += 1;
-    }
-    i
+    laws::first(n, |i| is_sibling(s, k, i))
 }

@@ -1,4 +1,5 @@
 -- The table that a record makes, wherever it stands: how long it is, as what it is read, and what a lookup finds in it.
+use Rattle.std.specs.Prelude.{Some, None}
 use Prim.Native.Nat.{ℕ, ◌<◌}
 use mathlib.Core.Path.{◌≡◌, sym, ap, subst, ◌∙◌}
 use mathlib.Core.List.{List}
@@ -15,7 +16,6 @@ use Rattle.source_header.specs.Header.{offset_of}
 use Rattle.source.specs.Kind.{kind_at, format_of}
 use Rattle.source.proofs.KindLaws.{tells14}
 use Rattle.source_records.specs.Records.{leads_to}
-use Rattle.heads_lookup.specs.declared.Found.TheVariants.{Nothing, Glyph}
 use Rattle.heads_lookup.specs.Lookup.{lookup4, lookup12, glyph_of}
 use Rattle.plan_listing.specs.Job.{Job, glyph_count}
 use Rattle.plan_listing.specs.Listing.{maps}
@@ -82,7 +82,7 @@ module _ {j : Job} (l : Lent j) (k : ℕ) where
             format12_kind_stands language (listed_of j k) (language12_fits j k l.bytes e) (above_listed l k) (stands_as (Format12 language g len) e)
             ∙ ap (Format12 language (length (groups (listed_of j k)))) (sym (long_as (Format12 language g len) e))
 
-        found12 : (c : ℕ) → lookup12 xs at c ≡ listed_as Nothing Glyph (listed_of j k) c
+        found12 : (c : ℕ) → lookup12 xs at c ≡ listed_as None Some (listed_of j k) c
         found12 c = format12_gives_stands language (listed_of j k) (language12_fits j k l.bytes e) (above_listed l k) (stands_as (Format12 language g len) e) c
 
         glyph12 : (c : ℕ) → glyph_of (lookup12 xs at c) ≡ listed_glyph (listed_of j k) c
@@ -136,8 +136,8 @@ module _ {j : Job} (l : Lent j) (k : ℕ) where
         made_glyph4 = made_finds4 ∙ as_mapped c
 
       module _ (f : format_of (leads_to j.source k) ≡ 12) (c : ℕ) where
-        pub made_found12 : lookup12 xs at c ≡ listed_as Nothing Glyph (listed_of j k) c
-        made_found12 = by12 (lookup12 xs at c ≡ listed_as Nothing Glyph (listed_of j k) c) f (λ language g len e. found12 e c)
+        pub made_found12 : lookup12 xs at c ≡ listed_as None Some (listed_of j k) c
+        made_found12 = by12 (lookup12 xs at c ≡ listed_as None Some (listed_of j k) c) f (λ language g len e. found12 e c)
 
         pub made_finds12 : glyph_of (lookup12 xs at c) ≡ listed_glyph (listed_of j k) c
         made_finds12 = by12 (glyph_of (lookup12 xs at c) ≡ listed_glyph (listed_of j k) c) f (λ language g len e. glyph12 e c)

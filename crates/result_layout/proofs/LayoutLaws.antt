@@ -1,116 +1,87 @@
--- The walks over the noted outcomes of a plan: counts and lengths.
-use Prim.Native.Nat.{ℕ, suc, ◌+◌, ◌*◌, ◌-◌, ◌<◌, ◌≤◌}
-use mathlib.Core.Path.{◌≡◌, ap}
-use mathlib.Core.List.{List}
-use mathlib.Core.Bool.{Bool, true, false}
+-- The walks over the outcomes of a plan: counts and lengths.
+use Prim.Native.Nat.{ℕ, zero, suc, ◌+◌, ◌*◌, ◌-◌, ◌^◌, ◌<◌, ◌≤◌}
+use mathlib.Core.Path.{◌≡◌, refl, sym, ◌∙◌}
+use mathlib.Core.List.{List, [], ◌∷◌}
+use native.Mathlib.Numerals.{add-one}
 use native.Mathlib.Omega.{arith}
-use lib.ListN.{length, get_or}
+use lib.ListN.{length, take, drop, length-drop}
+use lib.Seq.{take_all}
+use Rattle.std.specs.Prelude.{cond, sum_by, count_by}
+use Rattle.std.proofs.lemmas.List.Sums.{sum_by-cons}
+use Rattle.std.proofs.lemmas.List.Recursion.{is_count_by}
 use Rattle.plan.specs.declared.Outcome.{Outcome}
+use Rattle.plan.specs.declared.Outcome.TheVariants.{LeftOut, BadMapping, Served, Made}
 use Rattle.plan.specs.Outcomes.{at, is_written}
-use Rattle.plan.specs.Sizes.{made_size}
-use Rattle.plan.specs.Notes.{tells, outcomes_in}
+use Rattle.plan.specs.Sizes.{made_size, Small}
 use Rattle.plan.proofs.SizeLaws.{size_held}
-use Rattle.plan.proofs.NotedLaws.{at_noted, length_noted}
 use Rattle.result.specs.Result.{count_from, written_count}
-use Rattle.result.specs.Layout.{sizes_from, place_by_sizes, result_length}
+use Rattle.result.specs.Layout.{sizes_from, place_by_sizes}
 use Rattle.result_layout.specs.Counts.{OutcomesTold, Counts}
 
 -- ---- counts
 
--- k of m records are passed, n of them written
-pub record Counting (m : ℕ) (notes : List ℕ) (n k : ℕ) : Type 0 where
-  pub within : k ≤ m
-  pub few : n ≤ k
-  pub left : n + count_from (outcomes_in m notes) (m - k) k ≡ count_from (outcomes_in m notes) m 0
+count_tail : (o : Outcome) (os : List Outcome) (n k : ℕ) → count_from (o ∷ os) n (k + 1) ≡ count_from os n k
+unfolding count_from
+count_tail o os zero k = refl
+count_tail o os (suc n) k = rw (count_tail o os n (k + 1), add-one k) refl
 
-pub counting_start : (m : ℕ) (notes : List ℕ) → Counting m notes 0 0
-counting_start m notes =
-    let z : m - 0 ≡ m = omega arith in
-    record { within = omega arith; few = omega arith; left = rw z (omega arith) }
+one_more : (o : Outcome) (os : List Outcome) → written_count (o ∷ os) ≡ cond (is_written o) (1 + written_count os) (written_count os)
+unfolding count_from
+one_more (LeftOut why) os = count_tail (LeftOut why) os (length os) 0
+one_more BadMapping os = count_tail BadMapping os (length os) 0
+one_more (Served by) os = omega (arith, count_tail (Served by) os (length os) 0)
+one_more (Made n) os = omega (arith, count_tail (Made n) os (length os) 0)
 
-module _ (m : ℕ) (notes : List ℕ) (n k : ℕ) (l : Counting m notes n k) where
-  module _ (o : Outcome) (t : Bool) (h : k < m) (f : o ≡ tells (get_or notes k 0)) (q : t ≡ is_written o) where
-    asked : t ≡ is_written (at (outcomes_in m notes) k)
-    asked = rw (at_noted m k notes h, ← f) q
-
-    on : m - k ≡ suc (m - (k + 1))
-    on = omega arith
-
-    pub counting_yes : t ≡ true → Counting m notes (n + 1) (k + 1)
-    unfolding count_from
-    counting_yes e = record { within = omega arith; few = omega (arith, l.few); left = omega (arith, rw (on, ← asked, e) at l.left) }
-
-    pub counting_no : t ≡ false → Counting m notes n (k + 1)
-    unfolding count_from
-    counting_no e = record { within = omega arith; few = omega (arith, l.few); left = omega (arith, rw (on, ← asked, e) at l.left) }
-
-  pub counted_all : m ≤ length notes → m ≤ k → n ≡ written_count (outcomes_in m notes)
-  unfolding count_from
-  counted_all long h =
-      let z : m - k ≡ 0 = omega arith in
-      rw (length_noted m notes long) (omega (arith, rw z at l.left))
-
-pub ruleset counting = (counting_start, counting_yes, counting_no, counted_all)
+pub count_is : (os : List Outcome) → count_by is_written os ≡ written_count os
+unfolding count_from
+count_is os = sym (is_count_by written_count is_written refl one_more os)
 
 -- ---- lengths
 
--- the records from k up to i are passed, and their tables' lengths added up to n
-pub record Adding (m : ℕ) (notes : List ℕ) (k n i : ℕ) : Type 0 where
-  pub from : k ≤ i
-  pub within : i ≤ m
-  pub few : n ≤ i * 4294967296
-  pub left : n + sizes_from (outcomes_in m notes) (m - i) i ≡ sizes_from (outcomes_in m notes) (m - k) k
+size_tail : (o : Outcome) (os : List Outcome) (n k : ℕ) → sizes_from (o ∷ os) n (k + 1) ≡ sizes_from os n k
+unfolding sizes_from
+size_tail o os zero k = refl
+size_tail o os (suc n) k = rw (size_tail o os n (k + 1), add-one k) refl
 
-pub adding_start : (m : ℕ) (notes : List ℕ) (k : ℕ) → k ≤ m → Adding m notes k 0 k
-adding_start m notes k h = record { from = omega arith; within = h; few = omega arith; left = omega arith }
+pub sizes_are : (os : List Outcome) (k : ℕ) → sum_by made_size (drop k os) ≡ sizes_from os (length os - k) k
+unfolding sizes_from
+sizes_are [] zero = refl
+sizes_are [] (suc k) =
+    let z : 0 - suc k ≡ 0 = omega arith in
+    rw z refl
+sizes_are (o ∷ os) zero =
+    let z : suc (length os) - 0 ≡ suc (length os) = omega arith in
+    let y : length os - 0 ≡ length os = omega arith in
+    let r : sum_by made_size os ≡ sizes_from os (length os) 0 = rw y at (sizes_are os 0) in
+    rw (z, sum_by-cons made_size o os, size_tail o os (length os) 0, r) refl
+sizes_are (o ∷ os) (suc k) =
+    let z : suc (length os) - suc k ≡ length os - k = omega arith in
+    rw (z, sizes_are os k, ← add-one k) (sym (size_tail o os (length os - k) k))
 
-module _ (m : ℕ) (notes : List ℕ) (k n i : ℕ) (l : Adding m notes k n i) where
-  module _ (o : Outcome) (size : ℕ) (told : OutcomesTold m notes) (h : i < m) (f : o ≡ tells (get_or notes i 0)) (e : size ≡ made_size o) where
-    sized : size ≡ made_size (at (outcomes_in m notes) i)
-    sized = rw (at_noted m i notes h, ← f) e
+sizes_few : (os : List Outcome) → Small os → (n k : ℕ) → sizes_from os n k ≤ n * 4294967296
+unfolding sizes_from
+sizes_few os s zero k = omega arith
+sizes_few os s (suc n) k = omega (arith, sizes_few os s n (k + 1), size_held (at os k), (s.each k).below)
 
-    pub size_low : size < 4294967296
-    size_low = omega (arith, sized, size_held (at (outcomes_in m notes) i), (told.small.each i).below)
+-- the records from k on, as they are lent
+module _ (os : List Outcome) (k : ℕ) (told : OutcomesTold os) where
+  few : sizes_from os (length os - k) k ≤ 64 * 4294967296
+  few = omega (arith, sizes_few os told.small (length os - k) k, told.few)
 
-    pub adding_room : n + size ≤ 64 * 4294967296
-    adding_room = omega (arith, l.few, h, told.few, size_low)
+  lent : sum_by made_size (take (length os - k) (drop k os)) ≡ sizes_from os (length os - k) k
+  lent = rw (take_all (length os - k) (drop k os) (omega (arith, length-drop k os))) (sizes_are os k)
 
-    pub adding_on : Adding m notes k (n + size) (i + 1)
-    unfolding sizes_from
-    adding_on =
-        let z : m - i ≡ suc (m - (i + 1)) = omega arith in
-        record {
-          from = omega (arith, l.from);
-          within = omega arith;
-          few = omega (arith, l.few, size_low);
-          left = omega (arith, rw z at l.left, sized);
-        }
+  pub sum_few : sum_by made_size (take (length os - k) (drop k os)) < 2 ^ 64
+  sum_few = omega (arith, lent, few)
 
-  pub added_all : m ≤ i → n ≡ sizes_from (outcomes_in m notes) (m - k) k
-  unfolding sizes_from
-  added_all h =
-      let z : m - i ≡ 0 = omega arith in
-      omega (arith, rw z at l.left)
-
-  pub added_few : OutcomesTold m notes → n ≤ 64 * 4294967296
-  added_few told = omega (arith, l.few, l.within, told.few)
-
-pub ruleset adding = (adding_start, adding_on, added_all, added_few)
+  pub sum_told : (n : ℕ) → n ≡ sum_by made_size (take (length os - k) (drop k os)) → (n ≡ sizes_from os (length os - k) k) × (n ≤ 64 * 4294967296)
+  sum_told n e = (e ∙ lent, omega (arith, e, lent, few))
 
 -- ---- places
 
-module _ (m : ℕ) (notes : List ℕ) (count : ℕ) (c : Counts m notes count) where
-  all : length (outcomes_in m notes) ≡ m
-  all = length_noted m notes c.told.long
-
-  pub place_is : (k later : ℕ) → later ≡ sizes_from (outcomes_in m notes) (m - (k + 1)) (k + 1) → 4 + 8 * count + later ≡ place_by_sizes (outcomes_in m notes) k
+module _ (os : List Outcome) (count : ℕ) (c : Counts os count) where
+  pub place_is : (k later : ℕ) → later ≡ sizes_from os (length os - (k + 1)) (k + 1) → 4 + 8 * count + later ≡ place_by_sizes os k
   unfolding place_by_sizes
-  place_is k later e = rw all (omega (arith, e, c.is, ap (λ (n : ℕ). count_from (outcomes_in m notes) n 0) all))
+  place_is k later e = omega (arith, e, c.is)
 
-  pub length_is : (sizes : ℕ) → sizes ≡ sizes_from (outcomes_in m notes) (m - 0) 0 → 4 + 8 * count + sizes ≡ result_length (outcomes_in m notes)
-  length_is sizes e =
-      let z : m - 0 ≡ m = omega arith in
-      let s : sizes ≡ sizes_from (outcomes_in m notes) m 0 = rw z at e in
-      rw all (omega (arith, s, c.is, ap (λ (n : ℕ). count_from (outcomes_in m notes) n 0) all))
-
-pub ruleset places = (place_is, length_is)
+pub ruleset places = place_is

@@ -1,58 +1,55 @@
 // Where the tables of a result stand: how many records are written, and how long their tables are.
 #![tactic(auto)]
 
-ghost use Rattle.std.specs.Prelude.{◌≡◌, ◌+◌, ◌-◌, ◌*◌, ◌≤◌, ◌<◌, length};
-ghost use Rattle.plan.specs.Notes.{outcomes_in};
+ghost use Rattle.std.specs.Prelude.{◌≡◌, ◌+◌, ◌-◌, ◌*◌, ◌≤◌, ◌<◌, ◌^◌, length, sum_by};
+ghost use Rattle.plan.specs.Sizes.{made_size};
 ghost use Rattle.result.specs.Result.{written_count};
 ghost use Rattle.result.specs.Layout.{sizes_from, place_by_sizes, result_length};
 ghost use Rattle.result_layout.specs.Counts.{OutcomesTold, Counts};
 ghost use Rattle.number.specs.Limits.{records_max};
 
-// How many of the m records are written.
-pub fn count_written(notes: &[usize], m: usize) -> usize
-    requires { m ≤ length notes.now }
-    ensures { (result ≡ written_count (outcomes_in m notes.now)) × (result ≤ m) }
+use plan::Outcome;
+
+// How many of the records are written.
+pub fn count_written(outcomes: &[Outcome]) -> usize
+    ensures { (result ≡ written_count outcomes.now) × (result ≤ length outcomes.now) }
 {
-    let mut n: usize = 0;
-    let mut k = 0;
-    while k < m {
-        let o = plan_outcomes::outcome_at(notes, k);
-        k += 1;
-        if plan_outcomes::is_written(o) {
-            n += 1;
-        }
-    }
-    n
+    outcomes
+        .iter()
+        .filter(|o| plan_outcomes::is_written(**o))
+        .count()
+}
+
+// The lengths of the tables that these records made, together.
+fn add_sizes(outcomes: &[Outcome]) -> usize
+    requires { sum_by made_size outcomes.now < 2 ^ 64 }
+    ensures { result ≡ sum_by made_size outcomes.now }
+{
+    outcomes.iter().map(|o| plan_outcomes::size_of(*o)).sum()
 }
 
 // The lengths of the tables that the records from k on made, together.
-pub fn sizes_from(notes: &[usize], m: usize, k: usize) -> usize
-    requires outcomes_told { OutcomesTold m notes.now }
-    requires k_le_m { k ≤ m }
-    ensures { (result ≡ sizes_from (outcomes_in m notes.now) (m - k) k) × (result ≤ records_max * 4294967296) }
+pub fn sizes_from(outcomes: &[Outcome], k: usize) -> usize
+    requires outcomes_told { OutcomesTold outcomes.now }
+    requires k_in_bounds { k ≤ length outcomes.now }
+    ensures { (result ≡ sizes_from outcomes.now (length outcomes.now - k) k) × (result ≤ records_max * 4294967296) }
 {
-    let mut n: usize = 0;
-    let mut i = k;
-    while i < m {
-        n += plan_outcomes::size_of(plan_outcomes::outcome_at(notes, i));
-        i += 1;
-    }
-    n
+    add_sizes(&outcomes[k..])
 }
 
 // Where the table of record k stands, in a result of that many records.
-pub fn offset_of(notes: &[usize], m: usize, k: usize, count: usize) -> usize
-    requires counts { Counts m notes.now count }
-    requires k_lt_m { k < m }
-    ensures { result ≡ place_by_sizes (outcomes_in m notes.now) k }
+pub fn offset_of(outcomes: &[Outcome], k: usize, count: usize) -> usize
+    requires counts { Counts outcomes.now count }
+    requires k_in_bounds { k < length outcomes.now }
+    ensures { result ≡ place_by_sizes outcomes.now k }
 {
-    4 + 8 * count + sizes_from(notes, m, k + 1)
+    4 + 8 * count + sizes_from(outcomes, k + 1)
 }
 
 // The length of the whole result.
-pub fn result_length(notes: &[usize], m: usize, count: usize) -> usize
-    requires { Counts m notes.now count }
-    ensures { result ≡ result_length (outcomes_in m notes.now) }
+pub fn result_length(outcomes: &[Outcome], count: usize) -> usize
+    requires { Counts outcomes.now count }
+    ensures { result ≡ result_length outcomes.now }
 {
-    4 + 8 * count + sizes_from(notes, m, 0)
+    4 + 8 * count + sizes_from(outcomes, 0)
 }

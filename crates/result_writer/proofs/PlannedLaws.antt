@@ -14,6 +14,7 @@ use Rattle.plan.specs.Outcomes.{is_made}
 use Rattle.plan.specs.Sizes.{made_size}
 use Rattle.plan.specs.Fresh.{table_of}
 use Rattle.plan.specs.Making.{Ready}
+use Rattle.plan.proofs.OutcomesLaws.{length-plan}
 use Rattle.plan.proofs.PlanLaws.{ready, prepared_again}
 use Rattle.result.proofs.MadeLaws.{made_length}
 use Rattle.result.proofs.PlanLaws.{Making, plan_past, plan_made, plan_served}
@@ -21,6 +22,7 @@ use Rattle.plan.specs.Outcomes.{is_written, maker_of, at}
 use Rattle.plan.proofs.SizeLaws.{made_size_lem}
 use Rattle.result_writer.specs.RecordParts.{Laid}
 use Rattle.result_writer.specs.Writing.{WritesPlan}
+use Rattle.plan.specs.declared.Notes.{Notes}
 use Rattle.plan.specs.Notes.{outcomes_in}
 
 -- the record whose table record k is written with is k itself or one before it
@@ -30,7 +32,7 @@ maker_low BadMapping k l h f = h
 maker_low (Served r) k l h f = omega (arith, f r refl)
 maker_low (Made n) k l h f = h
 
-module _ (j : Job) (notes : List ℕ) (count : ℕ) (fs tocs togs : List ℕ) (p : WritesPlan j notes count fs tocs togs) where
+module _ (j : Job) (notes : Notes) (count : ℕ) (fs tocs togs : List ℕ) (p : WritesPlan j notes count fs tocs togs) where
   abbrev m : ℕ
   m = record_count j.source
 
@@ -56,11 +58,14 @@ module _ (j : Job) (notes : List ℕ) (count : ℕ) (fs tocs togs : List ℕ) (p
       (λ h. absurd (false-true (rw (p.is, plan_past j k h) at w)))
       (λ h. h)
 
-  pub laid : Laid j.source m notes count
+  pub long : length os ≡ m
+  long = rw p.is (length-plan j)
+
+  pub laid : Laid j.source os count
   laid = record {
     counts = p.counts;
     here = λ k w. (ready_of k (written_there k w)).pairs_ready.placed;
-    makers = λ k h. maker_low (at os k) k m h (λ r e. (plan_served j k r (rw p.is at e)).earlier);
+    makers = λ k h. maker_low (at os k) k (length os) h (λ r e. (plan_served j k r (rw p.is at e)).earlier);
   }
 
   pub making_of : (k : ℕ) → is_made (at os k) ≡ true → Making j k (made_size (at os k))

@@ -1,10 +1,10 @@
 -- The table of a record by the kind of its subtable: what its writer asks for, and that it is the record's.
-use Prim.Native.Nat.{ℕ, ◌+◌, ◌*◌, ◌≤◌, ◌-◌}
+use Prim.Native.Nat.{ℕ, ◌+◌, ◌*◌, ◌≤◌}
 use mathlib.Core.Path.{◌≡◌, refl, sym, ap, ◌∙◌}
 use mathlib.Core.List.{List}
 use native.Mathlib.Omega.{arith}
-use lib.ListN.{length, get_or, drop, take, length-drop}
-use lib.Seq.{sets, get_or-take, get_or-drop, take_all}
+use lib.ListN.{length}
+use lib.Seq.{sets}
 use Rattle.laws.specs.Lists.{Pair}
 use Rattle.number.specs.BigEndian.{be}
 use Rattle.source.specs.declared.Kind.{Kind}
@@ -18,20 +18,20 @@ use Rattle.format4.specs.declared.Size4.TheVariants.{Empty, TooLong, Fits}
 use Rattle.format4.specs.Format4.{format4}
 use Rattle.format4.specs.Size.{size_of4}
 use Rattle.format12.specs.Format12.{format12}
-use Rattle.plan.specs.Making.{Fronts}
+use Rattle.plan.specs.Making.{Ready}
 use Rattle.plan_make4.specs.Fits4.{Fits4}
 use Rattle.format14.specs.Selectors.{job14}
-use Rattle.format14.specs.ByNumber.{slot}
+use Rattle.format14.specs.ByNumber.{slot, Readable}
 use Rattle.format14.specs.Ends.{Ends}
 use Rattle.format14.specs.Format14.{format14, rows, length_of14}
 use Rattle.format14.proofs.WholeLaws.{length-format14}
 use Rattle.plan.specs.declared.Outcome.TheVariants.{Made}
 use Rattle.plan.specs.Sizes.{made_size}
+use Rattle.plan.specs.declared.Notes.{Notes}
 use Rattle.plan.specs.Fresh.{table_of, by4, fresh}
 use Rattle.plan.proofs.FreshLaws.{leads4, readable14}
 use Rattle.result.proofs.MadeLaws.{not_made, made_length, table_is}
 use Rattle.result_writer.specs.TableParts.{TableRoom, Known}
-use Rattle.plan.specs.Notes.{ends_in, fronts_in}
 
 sized4 : (ps : List Pair) (place n l : ℕ) (size : Size4) → size_of4 ps ≡ size → by4 size ≡ Made n → place + n ≤ l → Fits4 ps place l
 sized4 ps place n l Empty q e h = not_made (Fits4 ps place l) (by4 Empty) n refl e
@@ -64,11 +64,11 @@ module _ (xs : List ℕ) (k : ℕ) (kind : Kind) (q : kind ≡ leads_to xs k) (c
     pub size_14 : (l : ℕ) → TableRoom j k place size l → size ≡ length_of14 (rows (job14 xs at len kept map requested))
     size_14 l r = made_length j k size r.is ∙ ap length table_14 ∙ length-format14 (rows (job14 xs at len kept map requested))
 
-    pub ends_14 : (notes : List ℕ) → Known j k notes → Ends (slot (job14 xs at len kept map requested)) (2 * be 4 xs (at + 6)) (take (length notes - 128) (drop 128 notes))
-    unfolding ends_in
-    ends_14 notes w =
-        rw (take_all (length notes - 128) (drop 128 notes) (omega (arith, length-drop 128 notes)))
-        (rw p (w.ended.is n len (sym q ∙ e)))
+    pub readable_14 : (fs tocs togs : List ℕ) → Ready j k fs tocs togs → Readable xs at len kept requested
+    readable_14 fs tocs togs r = rw p (readable14 xs cs gs kept map requested k kind n len fs tocs togs q e r)
+
+    pub ends_14 : (notes : Notes) → Known j k notes → Ends (slot (job14 xs at len kept map requested)) (2 * be 4 xs (at + 6)) notes.ends
+    ends_14 notes w = rw p (w.ended.is n len (sym q ∙ e))
 
     pub wrote_14 : (out next : List ℕ) → next ≡ sets out place (format14 (rows (job14 xs at len kept map requested))) → next ≡ sets out place (table_of j k)
     wrote_14 out next h = rw table_14 h
@@ -76,10 +76,4 @@ module _ (xs : List ℕ) (k : ℕ) (kind : Kind) (q : kind ≡ leads_to xs k) (c
   pub wrote_none : (out : List ℕ) → kind ≡ Unreadable → out ≡ sets out place (table_of j k)
   wrote_none out e = rw (table_is j k Unreadable (sym q ∙ e))
 
-pub front_of : (xs cs gs kept map requested : List ℕ) (k : ℕ) (notes : List ℕ) → Known (job xs cs gs kept map requested) k notes
-    → Fronts xs (length map) cs gs k (get_or notes (64 + k) 0)
-unfolding fronts_in
-front_of xs cs gs kept map requested k notes w =
-    rw (get_or-take 64 (drop 64 notes) k 0 w.inside, get_or-drop 64 notes k 0) at (w.fronted.each k)
-
-pub ruleset tables = (front_of, ends_14, leads4, readable14, fits_4, wrote_4, room_12, wrote_12, size_14, wrote_14, wrote_none)
+pub ruleset tables = (leads4, fits_4, wrote_4, room_12, wrote_12, wrote_14, wrote_none)

@@ -3,7 +3,7 @@ use Prim.Native.Nat.{ℕ, ◌+◌, ◌*◌, ◌≤◌}
 use mathlib.Core.Path.{◌≡◌, sym, ap, ◌∙◌}
 use mathlib.Core.List.{List, ◌++◌}
 use native.Mathlib.Omega.{arith}
-use lib.ListN.{length}
+use lib.ListN.{length, take}
 use lib.Seq.{sets}
 use Rattle.laws.proofs.SetsLaws.{sets-append}
 use Rattle.number.specs.BigEndian.{enc}
@@ -14,6 +14,7 @@ use Rattle.source_header.specs.Header.{record_count}
 use Rattle.plan.specs.declared.Outcome.TheVariants.{Made}
 use Rattle.plan.specs.Outcomes.{at}
 use Rattle.plan.specs.Fresh.{table_of}
+use Rattle.plan.specs.declared.Notes.{Notes}
 use Rattle.plan.specs.Notes.{outcomes_in}
 use Rattle.plan.specs.Plan.{plan}
 use Rattle.plan.proofs.OutcomesLaws.{length-plan}
@@ -42,7 +43,7 @@ joined out one two fin count records tables a b c l =
       l,
     )
 
-module _ (xs cs gs kept map requested notes : List ℕ) (count : ℕ) (fs tocs togs : List ℕ) where
+module _ (xs cs gs kept map requested : List ℕ) (notes : Notes) (count : ℕ) (fs tocs togs : List ℕ) where
   abbrev j : Job
   j = job xs cs gs kept map requested
 
@@ -56,7 +57,8 @@ module _ (xs cs gs kept map requested notes : List ℕ) (count : ℕ) (fs tocs t
     pub writes_few : count ≤ 64
     writes_few = omega (arith, p.counts.few, p.counts.told.few)
 
-    pub planned_laid : (m : ℕ) → m ≡ record_count xs → Laid xs m notes count
+    pub planned_laid : (m : ℕ) → m ≡ record_count xs → Laid xs (take m notes.outcomes) count
+    unfolding outcomes_in
     planned_laid m e = rw e (laid j notes count fs tocs togs p)
 
     pub header_room : (out : List ℕ) → result_length os ≤ length out → 4 ≤ length out
@@ -69,15 +71,15 @@ module _ (xs cs gs kept map requested notes : List ℕ) (count : ℕ) (fs tocs t
     all = length-plan j
 
     pub whole_is : (m : ℕ) (out one two fin : List ℕ) → m ≡ record_count xs → one ≡ sets out 0 (enc 2 0 ++ enc 2 count)
-        → two ≡ sets one 4 (records_from (place_by_sizes (outcomes_in m notes)) xs (outcomes_in m notes) m 0)
+        → two ≡ sets one 4 (records_from (place_by_sizes (take m notes.outcomes)) xs (take m notes.outcomes) (length (take m notes.outcomes)) 0)
         → fin ≡ sets two (tables_start os) (tables_from j os (record_count xs) 0) → fin ≡ sets out 0 (result_of j (plan j))
-    unfolding result_of
+    unfolding result_of outcomes_in
     whole_is m out one two fin q a b c =
         let ps = plan j in
         let records = records_from (new_offset j ps) xs ps (length ps) 0 in
         let tables = tables_from j ps (length ps) 0 in
         let count_is : count ≡ written_count ps = rw p.is at p.counts.is in
-        let b₁ : two ≡ sets one 4 (records_from (place_by_sizes ps) xs ps (record_count xs) 0) = rw (q, p.is) at b in
+        let b₁ : two ≡ sets one 4 (records_from (place_by_sizes ps) xs ps (record_count xs) 0) = rw (q, p.is, all) at b in
         let b₂ : two ≡ sets one 4 records = b₁ ∙ ap (λ (z : List ℕ). sets one 4 z) (records_same (records_alike (place_by_sizes ps) (new_offset j ps) xs ps (λ k. sym (offset_place j ps (made_as j) k)) (record_count xs) 0)) in
         let c₁ : fin ≡ sets two (tables_start ps) (tables_from j ps (record_count xs) 0) = rw p.is at c in
         let c₂ : fin ≡ sets two (tables_start ps) tables = c₁ ∙ ap (λ (n : ℕ). sets two (tables_start ps) (tables_from j ps n 0)) (sym all) in

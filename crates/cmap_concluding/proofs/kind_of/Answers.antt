@@ -1,8 +1,8 @@
 use Rattle.cmap_concluding.proofs.FateLaws.{kinds}
 use Rattle.cmap_concluding.proofs.kind_of.Goals as goal
 
-pub written_at-requires-clause-k_lt_m : goal.written_at-requires-clause-k_lt_m
-written_at-requires-clause-k_lt_m c = search kinds
+pub written_at-requires-clause-k_in_bounds : goal.written_at-requires-clause-k_in_bounds
+written_at-requires-clause-k_in_bounds c = search kinds
 
 pub returns-in-LeftOut : goal.returns-in-LeftOut
 returns-in-LeftOut c = search kinds

@@ -1,19 +1,8 @@
-use Prim.Native.Nat.{◌-◌}
 use borrow.Author.Rules.{rules}
-use Rattle.cmap_refusals.proofs.LateLaws.{lacking}
+use Rattle.plan.specs.Plan.{made_plain}
+use Rattle.cmap_refusals.proofs.LateLaws.{lacks_told}
 use Rattle.cmap_refusals.proofs.lacks_plain.Goals as goal
 
-pub loop-k-init : goal.loop-k-init
-loop-k-init c = search (rules, lacking)
-
-pub made_plain-requires : goal.made_plain-requires
-made_plain-requires c = search (rules, lacking)
-
-pub returns-then-made_plain : goal.returns-then-made_plain
-returns-then-made_plain c = search (rules, lacking)
-
-pub loop-k-preserved : goal.loop-k-preserved
-loop-k-preserved c = search (rules, lacking)
-
 pub returns : goal.returns
-returns c = search (rules, lacking)
+returns c = let p = c.args in
+    lacks_told _ _ _ c.requires (c.some.ensures (made_plain p.s.now p.outcomes.now) (λ i b h e. search rules))

@@ -4,8 +4,8 @@ use Rattle.cmap_refusals.proofs.source_refusal.Goals as goal
 pub format_refusal-requires : goal.format_refusal-requires
 format_refusal-requires c = search by_header
 
-pub returns-in-Refused : goal.returns-in-Refused
-returns-in-Refused c = search by_header
+pub returns-in-None : goal.returns-in-None
+returns-in-None c = search by_header
 
-pub returns-in-Records : goal.returns-in-Records
-returns-in-Records c = search by_header
+pub returns-in-Some : goal.returns-in-Some
+returns-in-Some c = search by_header

@@ -1,11 +1,11 @@
+use borrow.Author.Rules.{rules}
 use Rattle.plan.specs.Covered.{covered}
-use Rattle.laws.proofs.ChoiceLaws.{all_of}
 use Rattle.plan_covered.proofs.can_drop_format12.Goals as goal
 
 pub returns-then-leads_to_format : goal.returns-then-leads_to_format
 unfolding covered
-returns-then-leads_to_format c = search all_of
+returns-then-leads_to_format c = search rules
 
-pub returns : goal.returns
+pub returns-else-leads_to_format : goal.returns-else-leads_to_format
 unfolding covered
-returns c = search all_of
+returns-else-leads_to_format c = search rules

@@ -1,21 +1,14 @@
-use Rattle.plan.proofs.MakingLaws.{made}
 use Rattle.plan_make12.proofs.Making12Laws.{made12}
 use Rattle.plan_make12.proofs.write12.Goals as goal
 
-pub write12_first-requires-clause-front : goal.write12_first-requires-clause-front
-write12_first-requires-clause-front c = search (made, made12)
+pub format12_size-size-requires : goal.format12_size-size-requires
+format12_size-size-requires c = search made12
 
-pub write12_first-requires-clause-room : goal.write12_first-requires-clause-room
-write12_first-requires-clause-room c = search (made, made12)
+pub write_format12-requires-clause-columns : goal.write_format12-requires-clause-columns
+write_format12-requires-clause-columns c = search made12
 
-pub returns-then-front-gt0 : goal.returns-then-front-gt0
-returns-then-front-gt0 c = search (made, made12)
-
-pub write12_first-requires-2-clause-front : goal.write12_first-requires-2-clause-front
-write12_first-requires-2-clause-front c = search (made, made12)
-
-pub write12_first-requires-2-clause-room : goal.write12_first-requires-2-clause-room
-write12_first-requires-2-clause-room c = search (made, made12)
+pub write_format12-requires-clause-groups_room : goal.write_format12-requires-clause-groups_room
+write_format12-requires-clause-groups_room c = search made12
 
 pub returns : goal.returns
-returns c = search (made, made12)
+returns c = search made12

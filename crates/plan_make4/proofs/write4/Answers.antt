@@ -1,27 +1,17 @@
-use Rattle.plan.proofs.MakingLaws.{made}
-use Rattle.plan_make4.proofs.Making4Laws.{made4, known}
+use Rattle.plan_make4.proofs.Making4Laws.{made4, not_unfit}
 use Rattle.plan_make4.proofs.write4.Goals as goal
 
-pub write4_first-requires-clause-front : goal.write4_first-requires-clause-front
-write4_first-requires-clause-front c = search (made, made4)
+pub format4_size-requires : goal.format4_size-requires
+format4_size-requires c = search made4
 
-pub write4_first-requires-clause-columns16 : goal.write4_first-requires-clause-columns16
-write4_first-requires-clause-columns16 c = search (made, made4, known c.requires.pairs_room (λ i. (c.shared_slice_known-1.given i).fits))
+pub write_format4-requires-clause-columns16 : goal.write_format4-requires-clause-columns16
+write_format4-requires-clause-columns16 c = search made4
 
-pub write4_first-requires-clause-fits4 : goal.write4_first-requires-clause-fits4
-write4_first-requires-clause-fits4 c = search (made, made4)
+pub write_format4-requires-clause-room : goal.write_format4-requires-clause-room
+write_format4-requires-clause-room c = search made4
 
-pub returns-then-front-gt0 : goal.returns-then-front-gt0
-returns-then-front-gt0 c = search (made, made4)
+pub returns-in-Fits : goal.returns-in-Fits
+returns-in-Fits c = search made4
 
-pub write4_first-requires-2-clause-front : goal.write4_first-requires-2-clause-front
-write4_first-requires-2-clause-front c = search (made, made4)
-
-pub write4_first-requires-2-clause-columns16 : goal.write4_first-requires-2-clause-columns16
-write4_first-requires-2-clause-columns16 c = search (made, made4, known c.requires.pairs_room (λ i. (c.shared_slice_known-1.given i).fits))
-
-pub write4_first-requires-2-clause-fits4 : goal.write4_first-requires-2-clause-fits4
-write4_first-requires-2-clause-fits4 c = search (made, made4)
-
-pub returns : goal.returns
-returns c = search (made, made4)
+pub returns-in_default : goal.returns-in_default
+returns-in_default c = not_unfit _ _ _ c.lend_noted_pairs-listed.ensures _ _ c.requires.fits4 _ c.format4_size.ensures c.in_default.not-Fits _ _

@@ -12,13 +12,13 @@ pub fresh14-requires-clause-readable : goal.fresh14-requires-clause-readable
 fresh14-requires-clause-readable c = search freshly
 
 pub returns-in-Format4 : goal.returns-in-Format4
-returns-in-Format4 c = ((search freshly, search rules), search leaving, search turning)
+returns-in-Format4 c = record { value = (search freshly, search rules); leaves = search leaving; turned = search turning }
 
 pub returns-in-Format12 : goal.returns-in-Format12
-returns-in-Format12 c = ((search freshly, search rules), search leaving, search turning)
+returns-in-Format12 c = record { value = (search freshly, search rules); leaves = search leaving; turned = search turning }
 
 pub returns-in-Format14 : goal.returns-in-Format14
-returns-in-Format14 c = ((search freshly, search rules), search leaving, search turning)
+returns-in-Format14 c = record { value = (search freshly, search rules); leaves = search leaving; turned = search turning }
 
 pub returns-in-Unreadable : goal.returns-in-Unreadable
-returns-in-Unreadable c = ((search freshly, record { below = omega arith }), search leaving, search turning)
+returns-in-Unreadable c = record { value = (search freshly, record { below = omega arith }); leaves = search leaving; turned = search turning }

@@ -8,7 +8,7 @@ pub retained_outcome-requires-clause-k_retained : goal.retained_outcome-requires
 retained_outcome-requires-clause-k_retained c = search outcome_rules
 
 pub returns-then-retain_encoding_record_for_subset : goal.returns-then-retain_encoding_record_for_subset
-returns-then-retain_encoding_record_for_subset c = ((search outcome_rules, search rules), search rules, search rules)
+returns-then-retain_encoding_record_for_subset c = record { value = (search outcome_rules, search rules); leaves = search rules; stays = search rules }
 
 pub returns : goal.returns
-returns c = ((search outcome_rules, record { below = omega arith }), search staying, search staying)
+returns c = record { value = (search outcome_rules, record { below = omega arith }); leaves = search staying; stays = search staying }

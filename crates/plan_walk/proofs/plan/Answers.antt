@@ -7,21 +7,22 @@ use Rattle.plan_walk.proofs.plan.Goals as goal
 pub loop-k-init : goal.loop-k-init
 loop-k-init c = (search planning, search rules)
 
-pub outcome_of-o-requires-clause-so_far : goal.outcome_of-o-requires-clause-so_far
-outcome_of-o-requires-clause-so_far c = (search planning, search planning, search planning)
-
-pub outcome_of-o-requires-clause-covered_room : goal.outcome_of-o-requires-clause-covered_room
-outcome_of-o-requires-clause-covered_room c = planning_rooms _ _ _ _ _ _ _ _ c.loop-k.invariant.0 (omega arith)
-
-pub note-requires-clause-k_in_bounds : goal.note-requires-clause-k_in_bounds
-note-requires-clause-k_in_bounds c = search planning
+pub outcome_of-requires : goal.outcome_of-requires
+outcome_of-requires c = record {
+  earlier = search planning;
+  ready = search planning;
+  notebook = search planning;
+  covered_room = planning_rooms _ _ _ _ _ _ _ _ c.loop-k.invariant.0 (omega arith);
+}
 
 pub loop-k-preserved : goal.loop-k-preserved
 loop-k-preserved c = let l = c.loop-k.invariant.0 in
-    let e = c.outcome_of-o.ensures in
-    let q = c.note.ensures in
-    (planning_on _ _ _ _ _ _ _ _ l _ _ _ _ _ _ _ (omega arith) e.0.0 e.0.1 (search rules) (search rules) (search rules) (search rules) e.1 e.2 q, search rules)
+    let e = c.outcome_of.ensures in
+    (planning_on _ _ _ _ _ _ _ _ l _ _ _ _ _ _ _ (omega arith) e.value.0 e.value.1 (search rules) (search rules) (search rules) (search rules) e.leaves e.stays (search rules) (search rules) (search rules), search rules)
 
-pub returns : goal.returns
-returns c = let l = c.loop-k.invariant.0 in
-    ((planning_done _ _ _ _ _ _ _ _ l (omega arith), planning_small _ _ _ _ _ _ _ _ l (omega arith)), search planning, planning_ended _ _ _ _ _ _ _ _ l (omega arith))
+pub returns-clause-planned : goal.returns-clause-planned
+returns-clause-planned c = let l = c.loop-k.invariant.0 in
+    (planning_done _ _ _ _ _ _ _ _ l (omega arith), planning_small _ _ _ _ _ _ _ _ l (omega arith))
+
+pub returns-clause-endings : goal.returns-clause-endings
+returns-clause-endings c = planning_ended _ _ _ _ _ _ _ _ c.loop-k.invariant.0 (omega arith)

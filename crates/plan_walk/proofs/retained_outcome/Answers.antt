@@ -10,13 +10,13 @@ pub is_dropped-requires-clause-tells : goal.is_dropped-requires-clause-tells
 is_dropped-requires-clause-tells c = search twins
 
 pub returns-then-is_dropped : goal.returns-then-is_dropped
-returns-then-is_dropped c = ((search outcome_rules, record { below = omega arith }), search staying, search staying)
+returns-then-is_dropped c = record { value = (search outcome_rules, record { below = omega arith }); leaves = search staying; stays = search staying }
 
 pub returns-then-r-k : goal.returns-then-r-k
-returns-then-r-k c = ((search outcome_rules, record { below = omega arith }), search staying, search staying)
+returns-then-r-k c = record { value = (search outcome_rules, record { below = omega arith }); leaves = search staying; stays = search staying }
 
 pub unserved_outcome-requires : goal.unserved_outcome-requires
-unserved_outcome-requires c = (search rules, search ready_again, search notebook_again)
+unserved_outcome-requires c = record { earlier = search rules; ready = search ready_again; notebook = search notebook_again }
 
 pub returns : goal.returns
-returns c = ((search outcome_rules, search rules), search rules, search staying)
+returns c = record { value = (search outcome_rules, search rules); leaves = search rules; stays = search staying }

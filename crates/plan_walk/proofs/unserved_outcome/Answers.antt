@@ -3,4 +3,4 @@ use Rattle.plan.proofs.NotesLaws.{staying}
 use Rattle.plan_walk.proofs.unserved_outcome.Goals as goal
 
 pub returns-then-r-k : goal.returns-then-r-k
-returns-then-r-k c = ((search twins, search twins), search staying, search staying)
+returns-then-r-k c = record { value = (search twins, search twins); leaves = search staying; turned = search staying }

@@ -1,16 +1,14 @@
+use mathlib.Core.Path.{◌≡◌, ◌∙◌}
 use native.Mathlib.Omega.{arith}
 use borrow.Author.Rules.{rules}
-use Rattle.result_layout.proofs.LayoutLaws.{counting}
+use lib.ListN.{length}
+use Rattle.std.specs.Prelude.{count_by}
+use Rattle.plan.specs.Outcomes.{is_written}
+use Rattle.result.proofs.CountLaws.{count_few}
+use Rattle.result_layout.proofs.LayoutLaws.{count_is}
 use Rattle.result_layout.proofs.count_written.Goals as goal
 
-pub loop-k-init : goal.loop-k-init
-loop-k-init c = search (rules, counting)
-
-pub loop-k-preserved-then-is_written : goal.loop-k-preserved-then-is_written
-loop-k-preserved-then-is_written c = search counting
-
-pub loop-k-preserved : goal.loop-k-preserved
-loop-k-preserved c = search counting
-
 pub returns : goal.returns
-returns c = (search counting, omega arith)
+returns c = let os = c.args.outcomes.now in
+    let e : c.count.result ≡ count_by is_written os = search rules in
+    (e ∙ count_is os, omega (arith, e, count_is os, count_few os (length os) 0))

@@ -2,8 +2,8 @@
 use Rattle.result_writer.proofs.RecordsLaws.{recorded}
 use Rattle.result_writer.proofs.serialize_encoding_record.Goals as goal
 
-pub offset_of-offset-requires-clause-k_lt_m : goal.offset_of-offset-requires-clause-k_lt_m
-offset_of-offset-requires-clause-k_lt_m c = search recorded
+pub offset_of-offset-requires-clause-k_in_bounds : goal.offset_of-offset-requires-clause-k_in_bounds
+offset_of-offset-requires-clause-k_in_bounds c = search recorded
 
 pub returns : goal.returns
 returns c = search recorded

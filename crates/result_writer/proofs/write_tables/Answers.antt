@@ -11,19 +11,16 @@ record_count-k-requires c = search whole
 pub loop-k-init : goal.loop-k-init
 loop-k-init c = search tabling
 
-pub outcome_at-o-requires : goal.outcome_at-o-requires
-outcome_at-o-requires c = search tabling
-
-pub overflow_add-next : goal.overflow_add-next
-overflow_add-next c = let r : c.loop-k.place + c.size_of-size.result ≤ 516 + 64 * 4294967296 = search tabling_low in
-    omega (arith, r)
+pub overflow_add-place-in-Made : goal.overflow_add-place-in-Made
+overflow_add-place-in-Made c = let low : c.loop-k.place + c.in-Made.size ≤ 516 + 64 * 4294967296 = search tabling_low in
+    omega (arith, low)
 
 pub write_table-requires : goal.write_table-requires
 write_table-requires c = let l = c.loop-k.invariant in
-    (search (tabling_ready, l), search (tabling_room, l), search (tabling_known, l))
+    record { ready = search (tabling_ready, l); room = search (tabling_room, l); known = search (tabling_known, l) }
 
-pub loop-k-preserved-then-is_made : goal.loop-k-preserved-then-is_made
-loop-k-preserved-then-is_made c = search tabling
+pub loop-k-preserved-in-Made : goal.loop-k-preserved-in-Made
+loop-k-preserved-in-Made c = search tabling
 
 pub loop-k-preserved : goal.loop-k-preserved
 loop-k-preserved c = search tabling
