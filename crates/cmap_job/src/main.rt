@@ -8,9 +8,6 @@ fn main() {
     let mut input = [0u8; INPUT_ROOM];
     let n = io::read_full(0, &mut input);
     let reply = job::answer(&input[..n], &mut out);
-    let head = reply.head;
-    let headlength = reply.headlength;
-    let length = reply.length;
-    io::write_all(1, &head[..headlength]);
-    io::write_all(1, &out[..length]);
+    io::write_all(1, &job_output::head(reply));
+    io::write_all(1, job_output::payload(&reply, &out));
 }

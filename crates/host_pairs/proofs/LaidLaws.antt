@@ -5,6 +5,7 @@ use native.Mathlib.Nat.{not-suc-le-zero, le_of_suc-le-suc}
 use native.Mathlib.Omega.{arith}
 use mathlib.Core.List.{List, [], ◌∷◌, ◌++◌}
 use lib.ListN.{length, get_or, take, drop, set}
+use lib.Seq.{take-length, take-append_seam, drop-append_seam}
 use native.Mathlib.Numerals.{add-one}
 use Rattle.std.proofs.Common.{map}
 use Rattle.std.proofs.lemmas.List.{get_or-map}
@@ -38,13 +39,9 @@ column_step f ps i d ys {out} e h k =
     ∙ upto_step i (map f ps) ys here (omega arith)
     ∙ ap (λ (n : ℕ). upto n (map f ps) ys) (sym (add-one i))
 
-take_all : (xs : List ℕ) → take (length xs) xs ≡ xs
-take_all [] = refl
-take_all (x ∷ xs) = ap (λ (r : List ℕ). x ∷ r) (take_all xs)
-
 -- all of them are there
 pub upto_all : (n : ℕ) (xs ys : List ℕ) → length xs ≡ n → upto n xs ys ≡ laid xs ys
-upto_all n xs ys e = ap (λ (m : ℕ). upto m xs ys) (sym e) ∙ ap (λ (r : List ℕ). r ++ drop (length xs) ys) (take_all xs)
+upto_all n xs ys e = ap (λ (m : ℕ). upto m xs ys) (sym e) ∙ ap (λ (r : List ℕ). r ++ drop (length xs) ys) (take-length xs)
 
 -- all records' numbers are there
 pub column_all : {A : Type 0} (f : A → ℕ) (ps : List A) (i : ℕ) (ys : List ℕ) {out : List ℕ} → out ≡ upto i (map f ps) ys → length ps ≤ i → i ≤ length ps → out ≡ laid (map f ps) ys
@@ -52,18 +49,10 @@ column_all f ps i ys e g h = e ∙ upto_all i (map f ps) ys (length-map f ps ∙
 
 -- the first places hold xs, the others what they held, and there are as many
 pub laid_first : (n : ℕ) (xs ys : List ℕ) → length xs ≡ n → take n (laid xs ys) ≡ xs
-laid_first n xs ys e = ap (λ (m : ℕ). take m (laid xs ys)) (sym e) ∙ take_app xs (drop (length xs) ys)
-  where
-    take_app : (us vs : List ℕ) → take (length us) (us ++ vs) ≡ us
-    take_app [] vs = refl
-    take_app (u ∷ us) vs = ap (λ (r : List ℕ). u ∷ r) (take_app us vs)
+laid_first n xs ys e = ap (λ (m : ℕ). take m (laid xs ys)) (sym e) ∙ take-append_seam xs (drop (length xs) ys)
 
 pub laid_rest : (n : ℕ) (xs ys : List ℕ) → length xs ≡ n → drop n (laid xs ys) ≡ drop n ys
-laid_rest n xs ys e = ap (λ (m : ℕ). drop m (laid xs ys)) (sym e) ∙ drop_app xs (drop (length xs) ys) ∙ ap (λ (m : ℕ). drop m ys) e
-  where
-    drop_app : (us vs : List ℕ) → drop (length us) (us ++ vs) ≡ vs
-    drop_app [] vs = refl
-    drop_app (u ∷ us) vs = drop_app us vs
+laid_rest n xs ys e = ap (λ (m : ℕ). drop m (laid xs ys)) (sym e) ∙ drop-append_seam xs (drop (length xs) ys) ∙ ap (λ (m : ℕ). drop m ys) e
 
 pub laid-length : (xs ys : List ℕ) → length xs ≤ length ys → length (laid xs ys) ≡ length ys
 laid-length xs ys h = ap length (sym (upto_all (length xs) xs ys refl)) ∙ length-upto (length xs) xs ys at_most h

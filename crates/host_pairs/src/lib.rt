@@ -20,12 +20,9 @@ pub fn copy_pairs(pairs: &[PairRecord], codes: &mut [u32], glyphs: &mut [u16])
     ensures { (codes.new ≡ laid (codes_of pairs.now) codes.old)
         × (glyphs.new ≡ laid (glyphs_of pairs.now) glyphs.old) }
 {
-    let mut i = 0;
-    while i < pairs.len() {
-        let p = pairs[i];
+    for (i, p) in pairs.iter().enumerate() {
         codes[i] = p.code;
         glyphs[i] = p.glyph;
-        i += 1;
     }
 }
 
@@ -40,11 +37,7 @@ pub fn sizes_broken(
 ) -> bool
     ensures { result ≡ sizes_broken source pairs codes glyphs kept map requested }
 {
-    if codes < pairs {
-        return true;
-    }
-    if glyphs < pairs {
-        return true;
-    }
-    lists_checks::bad_sizes(source, pairs, pairs, kept, map, requested)
+    codes < pairs
+        || glyphs < pairs
+        || lists_checks::bad_sizes(source, pairs, pairs, kept, map, requested)
 }

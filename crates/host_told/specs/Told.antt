@@ -1,12 +1,12 @@
 -- Answers as a host gets them: each enum told in numbers (docs/RULES.md, "Numbers of refusal" and "Records").
-use Rattle.std.specs.Prelude.{ℕ}
+use Rattle.std.specs.Prelude.{ℕ, Result}
 use Rattle.cmap_promise.specs.declared.Answer.{Answer}
 use Rattle.cmap_promise.specs.declared.Fate.{Fate}
 use Rattle.cmap_promise.specs.declared.FateKind.{FateKind}
 use Rattle.cmap_promise.specs.declared.FateKind.TheVariants.{NotRetained, Skipped, Empty, TooLong, Covered, WrittenAt, Refused, NoSuchRecord}
 use Rattle.cmap_promise.specs.Cmap.{number_of, length_of, records_of}
 use Rattle.cmap_promise.specs.Fates.{fate_number_of}
-use Rattle.heads.specs.declared.Printed.{Printed}
+use Rattle.heads.specs.declared.HeadRefusal.{HeadRefusal}
 use Rattle.heads.specs.Heads.{head_number_of, printed_of}
 use Rattle.host_told.specs.declared.SubsetAnswer.{SubsetAnswer}
 use Rattle.host_told.specs.declared.FateAnswer.{FateAnswer}
@@ -27,17 +27,11 @@ kind_number (Refused number) = 7
 
 -- where a written record's table stands in the result; 0 of any other
 abbrev pub written_at : FateKind → ℕ
-written_at NotRetained = 0
-written_at Skipped = 0
-written_at Empty = 0
-written_at TooLong = 0
-written_at Covered = 0
 written_at (WrittenAt offset) = offset
-written_at NoSuchRecord = 0
-written_at (Refused number) = 0
+written_at _ = 0
 
 abbrev pub told_fate : Fate → FateAnswer
 told_fate f = record { number = fate_number_of f.kind; platform = f.platform; encoding = f.encoding; kind = kind_number f.kind; offset = written_at f.kind }
 
-abbrev pub told_head : Printed → HeadAnswer
+abbrev pub told_head : Result ℕ HeadRefusal → HeadAnswer
 told_head a = record { number = head_number_of a; glyph = printed_of a }

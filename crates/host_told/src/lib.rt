@@ -1,13 +1,12 @@
-// Answers as a host gets them: a struct of numbers for each, and a function for each number that the rules give of an enum's cases.
+// Answers as a host gets them: a struct of numbers for each, made of an enum's cases.
 #![tactic(auto)]
 
 ghost use Rattle.std.specs.Prelude.{◌≡◌};
-ghost use Rattle.cmap_promise.specs.Cmap.{number_of, length_of, records_of};
-ghost use Rattle.cmap_promise.specs.Fates.{fate_number_of};
-ghost use Rattle.host_told.specs.Told.{told, kind_number, written_at, told_fate, told_head};
-ghost use Rattle.heads.specs.Heads.{old_head, new_head, head_number_of, printed_of};
+ghost use Rattle.host_told.specs.Told.{told, told_fate, told_head};
+ghost use Rattle.heads.specs.Heads.{old_head, new_head, head_number_of};
 
 use cmap_promise::{Answer, Fate, FateKind};
+use heads::HeadRefusal;
 
 // Number 0 is an acceptance; length and records are those written. 10 comes with the length needed.
 #[repr(C)]
@@ -37,133 +36,75 @@ pub struct HeadAnswer {
     pub glyph: u32,
 }
 
-// ---- answers told in numbers: a function for each number that the rules give of an enum's cases
+// ---- answers told in numbers
 
-fn number_of(answer: Answer) -> u8
-    ensures { result ≡ number_of answer }
-{
-    match answer {
-        Answer::Written {
-            bytes: _,
-            records: _,
-        } => 0,
-        Answer::Refused(number) => number,
-        Answer::NoRoom(_) => 10,
+impl From<Answer> for SubsetAnswer {
+    ghost from_gives = { λ answer r. r ≡ told answer };
+
+    fn from(answer: Answer) -> Self {
+        match answer {
+            Answer::Written { bytes, records } => SubsetAnswer {
+                number: 0,
+                length: bytes,
+                records,
+            },
+            Answer::Refused(number) => SubsetAnswer {
+                number,
+                length: 0,
+                records: 0,
+            },
+            Answer::NoRoom(bytes) => SubsetAnswer {
+                number: 10,
+                length: bytes,
+                records: 0,
+            },
+        }
     }
 }
 
-fn length_of(answer: Answer) -> usize
-    ensures { result ≡ length_of answer }
-{
-    match answer {
-        Answer::Written { bytes, records: _ } => bytes,
-        Answer::Refused(_) => 0,
-        Answer::NoRoom(bytes) => bytes,
+impl From<Fate> for FateAnswer {
+    ghost from_gives = { λ fate r. r ≡ told_fate fate };
+
+    // Kinds stay numbers in the struct, since a host in C reads them.
+    fn from(fate: Fate) -> Self {
+        let (kind, number, offset) = match fate.kind {
+            FateKind::NotRetained => (0, 0, 0),
+            FateKind::Skipped => (1, 0, 0),
+            FateKind::Empty => (2, 0, 0),
+            FateKind::TooLong => (3, 0, 0),
+            FateKind::Covered => (4, 0, 0),
+            FateKind::WrittenAt(offset) => (5, 0, offset),
+            FateKind::NoSuchRecord => (6, 0, 0),
+            FateKind::Refused(number) => (7, number, 0),
+        };
+        FateAnswer {
+            number,
+            platform: fate.platform,
+            encoding: fate.encoding,
+            kind,
+            offset,
+        }
     }
 }
 
-fn records_of(answer: Answer) -> usize
-    ensures { result ≡ records_of answer }
-{
-    match answer {
-        Answer::Written { bytes: _, records } => records,
-        Answer::Refused(_) => 0,
-        Answer::NoRoom(_) => 0,
-    }
-}
+// ---- the print heads
 
-pub fn tell(answer: Answer) -> SubsetAnswer
-    ensures { result ≡ told answer }
-{
-    SubsetAnswer {
-        number: number_of(answer),
-        length: length_of(answer),
-        records: records_of(answer),
-    }
-}
-
-fn fate_number_of(kind: FateKind) -> u8
-    ensures { result ≡ fate_number_of kind }
-{
-    match kind {
-        FateKind::NotRetained => 0,
-        FateKind::Skipped => 0,
-        FateKind::Empty => 0,
-        FateKind::TooLong => 0,
-        FateKind::Covered => 0,
-        FateKind::WrittenAt(_) => 0,
-        FateKind::Refused(number) => number,
-        FateKind::NoSuchRecord => 0,
-    }
-}
-
-fn kind_number(kind: FateKind) -> u8
-    ensures { result ≡ kind_number kind }
-{
-    match kind {
-        FateKind::NotRetained => 0,
-        FateKind::Skipped => 1,
-        FateKind::Empty => 2,
-        FateKind::TooLong => 3,
-        FateKind::Covered => 4,
-        FateKind::WrittenAt(_) => 5,
-        FateKind::Refused(_) => 7,
-        FateKind::NoSuchRecord => 6,
-    }
-}
-
-fn written_at(kind: FateKind) -> usize
-    ensures { result ≡ written_at kind }
-{
-    match kind {
-        FateKind::NotRetained => 0,
-        FateKind::Skipped => 0,
-        FateKind::Empty => 0,
-        FateKind::TooLong => 0,
-        FateKind::Covered => 0,
-        FateKind::WrittenAt(offset) => offset,
-        FateKind::Refused(_) => 0,
-        FateKind::NoSuchRecord => 0,
-    }
-}
-
-pub fn tell_fate(fate: Fate) -> FateAnswer
-    ensures { result ≡ told_fate fate }
-{
-    let kind = fate.kind;
-    FateAnswer {
-        number: fate_number_of(kind),
-        platform: fate.platform,
-        encoding: fate.encoding,
-        kind: kind_number(kind),
-        offset: written_at(kind),
-    }
-}
-
-fn head_number_of(answer: heads::Printed) -> u8
+fn head_number_of(answer: Result<u32, HeadRefusal>) -> u8
     ensures { result ≡ head_number_of answer }
 {
     match answer {
-        heads::Printed::Glyph(_) => 0,
-        heads::Printed::Refused(number) => number,
+        Ok(_) => 0,
+        Err(HeadRefusal::BadHeader) => 5,
+        Err(HeadRefusal::NothingReadable) => 11,
     }
 }
 
-fn printed_of(answer: heads::Printed) -> u32
-    ensures { result ≡ printed_of answer }
-{
-    match answer {
-        heads::Printed::Glyph(glyph) => glyph,
-        heads::Printed::Refused(_) => 0,
-    }
-}
-
-fn tell_head(answer: heads::Printed) -> HeadAnswer
+fn tell_head(answer: Result<u32, HeadRefusal>) -> HeadAnswer
     ensures { result ≡ told_head answer }
 {
     HeadAnswer {
         number: head_number_of(answer),
-        glyph: printed_of(answer),
+        glyph: answer.unwrap_or(0),
     }
 }
 

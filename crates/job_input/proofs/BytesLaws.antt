@@ -9,17 +9,17 @@ use native.Mathlib.Omega.{arith}
 use lib.ListN.{length, get_or, take, drop, length-append, get_or-append}
 use lib.Seq.{get_or-append-add, drop-cons}
 use borrow.Author.Tests.{le-leb, eq-eqb}
+use Rattle.std.proofs.Common.{Some, option_map}
 use Rattle.laws.proofs.StandsLaws.{Stands}
 use Rattle.number.specs.BigEndian.{be, enc}
 use Rattle.number.specs.Row.{encs}
 use Rattle.number.proofs.BigEndianLaws.{be_ext, be-enc_fits, length-enc}
 use Rattle.number.proofs.RowLaws.{length-encs}
 use Rattle.job_input.specs.declared.Field.{Field}
-use Rattle.job_input.specs.declared.FoundField.TheVariants.{Whole}
 use Rattle.job_input.specs.Column.{column}
 use Rattle.job_input.specs.declared.Places.{Places}
 use Rattle.plan_listing.specs.Job.{Job}
-use Rattle.job_input.specs.Job.{size, within, field_at, job_at, parsed_at, parse, read}
+use Rattle.job_input.specs.Job.{size, within, field_at, job_at, parse}
 use Rattle.job_input.specs.Bytes.{framed_record, pair_bytes, job_bytes, Fit, Sized}
 use Rattle.job_input.proofs.JobLaws.{Five, whole, five_located}
 
@@ -102,7 +102,7 @@ module _ {xs : List ℕ} {at : ℕ} (m : ℕ) (payload : List ℕ) where
   payload_stands s = rw (add_assoc at 2 4) at (behind 4 (length payload) payload (behind 2 m (enc 4 (length payload) ++ payload) s))
 
   framed_field : (width most : ℕ) → m < 65536 → length payload < 256 ^ 4 → length payload % width ≡ 0 → length payload / width ≤ most
-      → Stands xs at (framed_record m payload) → field_at m width most xs at ≡ Whole (field_in width payload at)
+      → Stands xs at (framed_record m payload) → field_at m width most xs at ≡ Some (field_in width payload at)
   framed_field width most hm hn a b s =
       let t = behind 2 m (enc 4 (length payload) ++ payload) s in
       let q : size xs at ≡ length payload = number 4 (length payload) payload t hn in
@@ -128,7 +128,7 @@ stands_take xs at (y ∷ ys) s =
 -- ---- a record comes back: where it stands, and its list
 
 pub record Back (m width most : ℕ) (xs : List ℕ) (at : ℕ) (payload : List ℕ) (list back : List ℕ) : Type 0 where
-  pub field : field_at m width most xs at ≡ Whole (field_in width payload at)
+  pub field : field_at m width most xs at ≡ Some (field_in width payload at)
   pub is : back ≡ list
 
 framed_list : {xs : List ℕ} {at : ℕ} (m w most : ℕ) (vs : List ℕ) → m < 65536 → 0 < w → length vs ≤ most → w * length vs < 256 ^ 4
@@ -251,10 +251,10 @@ module _ (j : Job) (z : Sized j) where
     ends = ends;
   }
 
-  pub parse_bytes : parse (job_bytes j) ≡ read j
+  pub parse_bytes : parse (job_bytes j) ≡ Some j
   parse_bytes =
-      ap (parsed_at bytes) (five_located bytes places found)
-      ∙ ap read (made the_source.is the_codes.is the_glyphs the_kept.is the_map.is the_requested.is)
+      ap (option_map (job_at bytes)) (five_located bytes places found)
+      ∙ ap Some (made the_source.is the_codes.is the_glyphs the_kept.is the_map.is the_requested.is)
     where
       made : {s c g k m r : List ℕ} → s ≡ j.source → c ≡ j.codes → g ≡ j.glyphs → k ≡ j.kept → m ≡ j.new_glyphs → r ≡ j.requested
           → ◌≡◌ {A = Job} (record { source = s; codes = c; glyphs = g; kept = k; new_glyphs = m; requested = r }) j

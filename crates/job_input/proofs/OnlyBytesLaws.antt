@@ -2,26 +2,24 @@
 use Prim.Native.Nat.{ℕ, zero, suc, ◌+◌, ◌*◌, ◌/◌, ◌%◌, ◌≤◌}
 use mathlib.Core.Path.{◌≡◌, refl, sym, ap, ap₂, subst, ◌∙◌}
 use mathlib.Core.List.{List, [], ◌++◌, append_assoc, append-nil}
-use mathlib.Core.Bool.{Bool, true, false}
 use native.Mathlib.Nat.{mul-zero, mul-suc, div-add-mod}
 use native.Mathlib.Omega.{arith}
 use lib.ListN.{length, take, drop, take-append-drop, drop_of_length-le, length-drop}
 use lib.Seq.{drop-drop, take-add}
 use borrow.Author.Tests.{eqb-true}
 use lib.Dec.{leb}
-use Rattle.laws.proofs.ChoiceLaws.{both_left, false-true}
+use Rattle.std.proofs.Common.{Option, Some, None, option_map}
+use Rattle.std.proofs.lemmas.Option.{none-some, same_Some}
+use Rattle.laws.proofs.ChoiceLaws.{both_left}
 use Rattle.laws.proofs.TakeLaws.{take_counts}
 use Rattle.number.specs.BigEndian.{enc, Bytes}
 use Rattle.number.specs.Row.{encs}
 use Rattle.number.proofs.BigEndianLaws.{be_lt, enc-be}
 use Rattle.plan_listing.specs.Job.{Job}
 use Rattle.job_input.specs.declared.Field.{Field}
-use Rattle.job_input.specs.declared.FoundField.TheVariants.{Whole}
 use Rattle.job_input.specs.declared.Places.{Places}
-use Rattle.job_input.specs.declared.Located.{Located}
-use Rattle.job_input.specs.declared.Located.TheVariants.{At, Damaged}
 use Rattle.job_input.specs.Column.{column}
-use Rattle.job_input.specs.Job.{Parsed, read, damaged, size, within, field_at, located, job_at, parsed_at, parse}
+use Rattle.job_input.specs.Job.{size, within, field_at, located, job_at, parse}
 use Rattle.job_input.specs.Bytes.{framed_record, pair_bytes, job_bytes, Fit, Sized}
 use Rattle.job_input.proofs.JobLaws.{field_stands, field_is, field_payload, five, placed}
 use Rattle.job_input.proofs.ColumnLaws.{length-column}
@@ -59,7 +57,7 @@ module _ (xs : List ℕ) (b : Bytes xs) where
   fit_column w stride (suc n) at = (be_lt w xs at b, fit_column w stride n (at + stride))
 
   -- a record that stands, and the bytes behind it
-  module _ (m width most at : ℕ) (f : Field) (e : field_at m width most xs at ≡ Whole f) where
+  module _ (m width most at : ℕ) (f : Field) (e : field_at m width most xs at ≡ Some f) where
     size-count : size xs at ≡ width * f.count
     unfolding within
     size-count =
@@ -88,7 +86,7 @@ module _ (xs : List ℕ) (b : Bytes xs) where
 
   -- ---- the five records
 
-  module _ (p : Places) (e : located xs ≡ At p) where
+  module _ (p : Places) (e : located xs ≡ Some p) where
     abbrev j : Job
     j = job_at xs p
 
@@ -128,19 +126,11 @@ module _ (xs : List ℕ) (b : Bytes xs) where
           requested2 = fit_column 2 2 p.requested.count p.requested.at;
         }
 
-pub parsed_bytes : (xs : List ℕ) → Bytes xs → (j : Job) → parse xs ≡ read j → (xs ≡ job_bytes j) × Sized j
+pub parsed_bytes : (xs : List ℕ) → Bytes xs → (j : Job) → parse xs ≡ Some j → (xs ≡ job_bytes j) × Sized j
 parsed_bytes xs b j h = go (located xs) refl
   where
-    un : Parsed → Job
-    un (read k) = k
-    un damaged = j
-
-    is_read : Parsed → Bool
-    is_read (read k) = true
-    is_read damaged = false
-
-    go : (r : Located) → located xs ≡ r → (xs ≡ job_bytes j) × Sized j
-    go (At p) e =
-        let q : job_at xs p ≡ j = ap un (sym (ap (parsed_at xs) e) ∙ h) in
+    go : (r : Option Places) → located xs ≡ r → (xs ≡ job_bytes j) × Sized j
+    go (Some p) e =
+        let q : job_at xs p ≡ j = same_Some (job_at xs p) j (sym (ap (option_map (job_at xs)) e) ∙ h) in
         (subst (λ (k : Job). xs ≡ job_bytes k) q (is_bytes xs b p e), subst Sized q (is_sized xs b p e))
-    go Damaged e = absurd (false-true (ap is_read (sym (ap (parsed_at xs) e) ∙ h)))
+    go None e = absurd (none-some j (sym (ap (option_map (job_at xs)) e) ∙ h))

@@ -1,7 +1,6 @@
 -- Inner: jobs and what they are taken apart into, a small one and the same with one thing wrong; a law computes them, and no promise names them.
-use Rattle.std.specs.Prelude.{ℕ, List, [], ◌∷◌, ◌++◌}
-use Rattle.plan_listing.specs.Job.{job}
-use Rattle.job_input.specs.Job.{Parsed, read, damaged}
+use Rattle.std.specs.Prelude.{ℕ, List, [], ◌∷◌, ◌++◌, Option, Some, None}
+use Rattle.plan_listing.specs.Job.{Job, job}
 
 abbrev tb : List ℕ
 tb = 0x54 ∷ 0x42 ∷ 0 ∷ 0 ∷ 0 ∷ 4 ∷ 0 ∷ 0 ∷ 0 ∷ 7 ∷ []
@@ -25,23 +24,23 @@ no_entries = 0x4D ∷ 0x50 ∷ 0 ∷ 0 ∷ 0 ∷ 0 ∷ []
 abbrev half_entry : List ℕ
 half_entry = 0x4D ∷ 0x50 ∷ 0 ∷ 0 ∷ 0 ∷ 1 ∷ 0 ∷ []
 
-abbrev with_map : List ℕ → Parsed
-with_map entries = read (job (0 ∷ 0 ∷ 0 ∷ 7 ∷ []) (0x41 ∷ 0x10041 ∷ []) (1 ∷ 258 ∷ []) (0xFE00 ∷ []) entries [])
+abbrev with_map : List ℕ → Option Job
+with_map entries = Some (job (0 ∷ 0 ∷ 0 ∷ 7 ∷ []) (0x41 ∷ 0x10041 ∷ []) (1 ∷ 258 ∷ []) (0xFE00 ∷ []) entries [])
 
 pub record JobCase : Type 0 where
   pub bytes : List ℕ
-  pub parsed : Parsed
+  pub parsed : Option Job
 
-abbrev case : List ℕ → Parsed → JobCase
+abbrev case : List ℕ → Option Job → JobCase
 case xs p = record { bytes = xs; parsed = p }
 
 abbrev pub job_cases : List JobCase
 job_cases =
     case (tb ++ (pr ++ (kp ++ (mp ++ rq)))) (with_map (65535 ∷ 1 ∷ []))
     ∷ case (tb ++ (pr ++ (kp ++ (no_entries ++ rq)))) (with_map [])
-    ∷ case (tb ++ (pr ++ (kp ++ (half_entry ++ rq)))) damaged
-    ∷ case (tb ++ (pr ++ (mp ++ (kp ++ rq)))) damaged
-    ∷ case (tb ++ (pr ++ (kp ++ (mp ++ (rq ++ (0 ∷ [])))))) damaged
-    ∷ case (tb ++ (pr ++ (kp ++ mp))) damaged
-    ∷ case [] damaged
+    ∷ case (tb ++ (pr ++ (kp ++ (half_entry ++ rq)))) None
+    ∷ case (tb ++ (pr ++ (mp ++ (kp ++ rq)))) None
+    ∷ case (tb ++ (pr ++ (kp ++ (mp ++ (rq ++ (0 ∷ [])))))) None
+    ∷ case (tb ++ (pr ++ (kp ++ mp))) None
+    ∷ case [] None
     ∷ []

@@ -1,15 +1,11 @@
 -- A job's bytes taken apart (docs/RULES.md, "The job program"): five records in a fixed order and nothing behind them, or damaged bytes.
-use Rattle.std.specs.Prelude.{ℕ, ◌+◌, ◌/◌, ◌%◌, List, [], Bool, length, take, drop, leb, eqb}
+use Rattle.std.specs.Prelude.{ℕ, ◌+◌, ◌/◌, ◌%◌, List, [], Bool, length, take, drop, leb, eqb, Option, Some, None, option_map, option_and_then, unwrap_or}
 use Rattle.laws.specs.Choice.{pick, both, if_eq}
 use Rattle.number.specs.BigEndian.{be}
 use Rattle.plan_listing.specs.Job.{Job, job}
 use Rattle.job_input.specs.Column.{column}
 use Rattle.job_input.specs.declared.Field.{Field}
-use Rattle.job_input.specs.declared.FoundField.{FoundField}
-use Rattle.job_input.specs.declared.FoundField.TheVariants.{Whole, Broken}
 use Rattle.job_input.specs.declared.Places.{Places}
-use Rattle.job_input.specs.declared.Located.{Located}
-use Rattle.job_input.specs.declared.Located.TheVariants.{At, Damaged}
 use Rattle.job_input.specs.JobLimits.{job_source_max, job_pairs_max, job_kept_max, job_map_max, job_requested_max}
 
 -- ---- one record: a two-byte mark, a 4-byte length, a payload
@@ -35,19 +31,21 @@ stands m width most xs at =
 abbrev pub field_of : ℕ → List ℕ → ℕ → Field
 field_of width xs at = record { at = at + 6; count = size xs at / width; end = at + 6 + size xs at }
 
-unfoldable pub field_at : ℕ → ℕ → ℕ → List ℕ → ℕ → FoundField
-field_at m width most xs at = pick (stands m width most xs at) (Whole (field_of width xs at)) Broken
+unfoldable pub field_at : ℕ → ℕ → ℕ → List ℕ → ℕ → Option Field
+field_at m width most xs at = pick (stands m width most xs at) (Some (field_of width xs at)) None
 
 -- ---- the five records, once each, in this order, and nothing after RQ
 
 -- what follows a record that stands; where it does not, the job is damaged
-unfoldable pub after : FoundField → (Field → Located) → Located
-after (Whole f) rest = rest f
-after Broken rest = Damaged
+abbrev pub after : Option Field → (Field → Option Places) → Option Places
+after found rest = option_and_then rest found
 
--- behind the pairs
-unfoldable pub located_lists : List ℕ → Field → Field → Located
-located_lists xs source pairs =
+unfoldable pub located : List ℕ → Option Places
+located xs =
+    -- TB, the source: at most 32,768 bytes
+    after (field_at 0x5442 1 job_source_max xs 0) (λ source.
+    -- PR, the pairs: 6 bytes each, at most 2,048
+    after (field_at 0x5052 6 job_pairs_max xs source.end) (λ pairs.
     -- KP, the kept code points: 4 bytes each, at most 4,096
     after (field_at 0x4B50 4 job_kept_max xs pairs.end) (λ kept.
     -- MP, the map: 2 bytes an entry, at most 8,192
@@ -55,15 +53,8 @@ located_lists xs source pairs =
     -- RQ, the requested glyphs: 2 bytes each, at most 2,048
     after (field_at 0x5251 2 job_requested_max xs map.end) (λ requested.
     if_eq requested.end (length xs)
-    (At (record { source = source; pairs = pairs; kept = kept; map = map; requested = requested }))
-    Damaged)))
-
-unfoldable pub located : List ℕ → Located
-located xs =
-    -- TB, the source: at most 32,768 bytes
-    after (field_at 0x5442 1 job_source_max xs 0) (λ source.
-    -- PR, the pairs: 6 bytes each, at most 2,048
-    after (field_at 0x5052 6 job_pairs_max xs source.end) (λ pairs. located_lists xs source pairs))
+    (Some (record { source = source; pairs = pairs; kept = kept; map = map; requested = requested }))
+    None)))))
 
 -- ---- the lists
 
@@ -78,18 +69,10 @@ job_at xs p = record {
   requested = column 2 2 xs p.requested.at p.requested.count;
 }
 
-pub data Parsed : Type 0 where
-  read : Job → Parsed
-  damaged : Parsed
-
-abbrev pub parsed_at : List ℕ → Located → Parsed
-parsed_at xs (At p) = read (job_at xs p)
-parsed_at xs Damaged = damaged
-
-abbrev pub parse : List ℕ → Parsed
-parse xs = parsed_at xs (located xs)
+-- the job, or None of damaged bytes
+abbrev pub parse : List ℕ → Option Job
+parse xs = option_map (job_at xs) (located xs)
 
 -- the lists of damaged bytes are empty
-abbrev pub parsed_job : Parsed → Job
-parsed_job (read j) = j
-parsed_job damaged = job [] [] [] [] [] []
+abbrev pub parsed_job : Option Job → Job
+parsed_job parsed = unwrap_or parsed (job [] [] [] [] [] [])

@@ -2,7 +2,7 @@
 #![tactic(auto)]
 
 ghost use Rattle.std.specs.Prelude.{◌≡◌, ◌≤◌};
-ghost use Rattle.job_input.specs.Job.{within, field_at, located_lists, located};
+ghost use Rattle.job_input.specs.Job.{within, field_at, located};
 
 // The marks.
 const TB: u32 = 0x5442;
@@ -35,12 +35,6 @@ pub struct Field {
 }
 
 #[derive(Clone, Copy)]
-pub enum FoundField {
-    Whole(Field),
-    Broken,
-}
-
-#[derive(Clone, Copy)]
 pub struct Places {
     pub source: Field,
     pub pairs: Field,
@@ -49,85 +43,50 @@ pub struct Places {
     pub requested: Field,
 }
 
-#[derive(Clone, Copy)]
-pub enum Located {
-    At(Places),
-    Damaged,
-}
-
 // Whether n bytes are whole entries of that width, and not too many.
 fn is_within(width: usize, most: usize, n: usize) -> bool
     requires { 1 ≤ width }
     ensures { result ≡ within width most n }
 {
-    if n % width != 0 {
-        return false;
-    }
-    n / width <= most
+    n % width == 0 && n / width <= most
 }
 
-fn field_at(mark: u32, width: usize, most: usize, s: &[u8], at: usize) -> FoundField
+fn field_at(mark: u32, width: usize, most: usize, s: &[u8], at: usize) -> Option<Field>
     requires { 1 ≤ width }
     ensures { result ≡ field_at mark width most s.now at }
 {
     let n = s.len();
-    if n < 6 {
-        return FoundField::Broken;
-    }
-    if n - 6 < at {
-        return FoundField::Broken;
-    }
-    if number::u16_at(s, at) != mark {
-        return FoundField::Broken;
+    if n < 6 || n - 6 < at || number::u16_at(s, at) != mark {
+        return None;
     }
     let size = number::u32_at(s, at + 2) as usize;
-    if n - 6 - at < size {
-        return FoundField::Broken;
+    if n - 6 - at < size || !is_within(width, most, size) {
+        return None;
     }
-    if is_within(width, most, size) {
-        return FoundField::Whole(Field {
-            at: at + 6,
-            count: size / width,
-            end: at + 6 + size,
-        });
-    }
-    FoundField::Broken
+    Some(Field {
+        at: at + 6,
+        count: size / width,
+        end: at + 6 + size,
+    })
 }
 
-// The records KP, MP and RQ, and nothing behind them.
-fn locate_lists(s: &[u8], source: Field, pairs: Field) -> Located
-    ensures { result ≡ located_lists s.now source pairs }
+// Where the five records stand, with nothing behind them.
+pub fn locate(s: &[u8]) -> Option<Places>
+    ensures { result ≡ located s.now }
 {
-    let FoundField::Whole(kept) = field_at(KP, 4, JOB_KEPT_MAX, s, pairs.end) else {
-        return Located::Damaged;
-    };
-    let FoundField::Whole(map) = field_at(MP, 2, JOB_MAP_MAX, s, kept.end) else {
-        return Located::Damaged;
-    };
-    let FoundField::Whole(requested) = field_at(RQ, 2, JOB_REQUESTED_MAX, s, map.end) else {
-        return Located::Damaged;
-    };
+    let source = field_at(TB, 1, JOB_SOURCE_MAX, s, 0)?;
+    let pairs = field_at(PR, 6, JOB_PAIRS_MAX, s, source.end)?;
+    let kept = field_at(KP, 4, JOB_KEPT_MAX, s, pairs.end)?;
+    let map = field_at(MP, 2, JOB_MAP_MAX, s, kept.end)?;
+    let requested = field_at(RQ, 2, JOB_REQUESTED_MAX, s, map.end)?;
     if requested.end != s.len() {
-        return Located::Damaged;
+        return None;
     }
-    Located::At(Places {
+    Some(Places {
         source,
         pairs,
         kept,
         map,
         requested,
     })
-}
-
-// Where the five records stand.
-pub fn locate(s: &[u8]) -> Located
-    ensures { result ≡ located s.now }
-{
-    let FoundField::Whole(source) = field_at(TB, 1, JOB_SOURCE_MAX, s, 0) else {
-        return Located::Damaged;
-    };
-    let FoundField::Whole(pairs) = field_at(PR, 6, JOB_PAIRS_MAX, s, source.end) else {
-        return Located::Damaged;
-    };
-    locate_lists(s, source, pairs)
 }

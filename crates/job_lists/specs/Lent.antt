@@ -1,12 +1,31 @@
--- Inner: what the functions ask of one another, that a column can be copied and that arrays hold the job's lists; no promise names it.
-use Rattle.std.specs.Prelude.{ℕ, ◌+◌, ◌*◌, ◌≤◌, ◌≡◌, List, length, take}
+-- Inner: what the functions ask of one another, that arrays hold the job's lists; no promise names it.
+use Rattle.std.specs.Prelude.{ℕ, ◌+◌, ◌≤◌, ◌≡◌, List, length, take, replicate}
+use Rattle.std.proofs.lemmas.List.Edits.{sets}
+use Rattle.plan_listing.specs.Job.{Job}
 use Rattle.job_input.specs.declared.Places.{Places}
 use Rattle.job_input.specs.Job.{job_at}
+use Rattle.job_input.specs.JobLimits.{job_pairs_max, job_kept_max, job_map_max, job_requested_max}
+use Rattle.job_lists.specs.declared.Lists.{Lists}
 
--- what copying a column into a list asks: the last number ends inside the bytes, and the list has the places
-pub record ColumnFits (w stride : ℕ) (xs : List ℕ) (at n : ℕ) (out : List ℕ) : Type 0 where
-  pub inside : at + stride * n + w ≤ length xs + stride
-  pub places : n ≤ length out
+-- arrays that nothing was copied into
+unfoldable pub no_lists : Lists
+no_lists = record {
+  codes = replicate job_pairs_max 0;
+  glyphs = replicate job_pairs_max 0;
+  kept = replicate job_kept_max 0;
+  map = replicate job_map_max 0;
+  requested = replicate job_requested_max 0;
+}
+
+-- the arrays with the job's lists at their fronts
+abbrev pub with_lists : Lists → Job → Lists
+with_lists l j = record {
+  codes = sets l.codes 0 j.codes;
+  glyphs = sets l.glyphs 0 j.glyphs;
+  kept = sets l.kept 0 j.kept;
+  map = sets l.map 0 j.new_glyphs;
+  requested = sets l.requested 0 j.requested;
+}
 
 -- ---- arrays that were filled
 
@@ -16,10 +35,10 @@ pub record AtFront (n : ℕ) (buffer list : List ℕ) : Type 0 where
   pub is : take n buffer ≡ list
 
 -- each list of the job, in as many places as its record has entries; the source stands in the bytes
-pub record ListsHeld (xs : List ℕ) (p : Places) (cs gs ks ms rs : List ℕ) : Type 0 where
+pub record ListsHeld (xs : List ℕ) (p : Places) (l : Lists) : Type 0 where
   pub source : p.source.at + p.source.count ≤ length xs
-  pub codes : AtFront p.pairs.count cs (job_at xs p).codes
-  pub glyphs : AtFront p.pairs.count gs (job_at xs p).glyphs
-  pub kept : AtFront p.kept.count ks (job_at xs p).kept
-  pub map : AtFront p.map.count ms (job_at xs p).new_glyphs
-  pub requested : AtFront p.requested.count rs (job_at xs p).requested
+  pub codes : AtFront p.pairs.count l.codes (job_at xs p).codes
+  pub glyphs : AtFront p.pairs.count l.glyphs (job_at xs p).glyphs
+  pub kept : AtFront p.kept.count l.kept (job_at xs p).kept
+  pub map : AtFront p.map.count l.map (job_at xs p).new_glyphs
+  pub requested : AtFront p.requested.count l.requested (job_at xs p).requested

@@ -1,8 +1,7 @@
 -- What the program writes for the bytes of a job (docs/RULES.md, "The job program").
-use Rattle.std.specs.Prelude.{ℕ, List}
-use Rattle.job_input.specs.Job.{Parsed, read, damaged}
-use Rattle.job_output.specs.declared.Reply.{Reply}
-use Rattle.job_output.specs.Output.{accepted, refused, acceptance, refusal}
+use Rattle.std.specs.Prelude.{ℕ, List, Option, Some, None, Result, Ok, Err}
+use Rattle.plan_listing.specs.Job.{Job}
+use Rattle.job_output.specs.Output.{accepted, refused}
 use Rattle.cmap_promise.specs.declared.Answer.{Answer}
 use Rattle.cmap_promise.specs.declared.Answer.TheVariants.{Written, Refused, NoRoom}
 use Rattle.cmap_promise.specs.Cmap.{result, answer_of, output_of}
@@ -17,22 +16,22 @@ reply_bytes (Written n k) bytes = accepted bytes
 reply_bytes (Refused number) bytes = refused number
 reply_bytes (NoRoom n) bytes = refused 10
 
--- 12 comes before all other numbers
-unfoldable pub answered : Parsed → List ℕ
-answered (read j) = reply_bytes (answer_of j room) (result j)
-answered damaged = refused 12
+-- of a job, or of damaged bytes: 12 comes before all other numbers
+unfoldable pub answered : Option Job → List ℕ
+answered (Some j) = reply_bytes (answer_of j room) (result j)
+answered None = refused 12
 
 -- ---- the same in two parts: the reply, and what is left in the work buffer
 
-unfoldable pub reply_of : Answer → Reply
-reply_of (Written n k) = acceptance n
-reply_of (Refused number) = refusal number
-reply_of (NoRoom n) = refusal 10
+unfoldable pub reply_of : Answer → Result ℕ ℕ
+reply_of (Written n k) = Ok n
+reply_of (Refused number) = Err number
+reply_of (NoRoom n) = Err 10
 
-unfoldable pub reply_to : Parsed → Reply
-reply_to (read j) = reply_of (answer_of j room)
-reply_to damaged = refusal 12
+unfoldable pub reply_to : Option Job → Result ℕ ℕ
+reply_to (Some j) = reply_of (answer_of j room)
+reply_to None = Err 12
 
-unfoldable pub left_by : Parsed → List ℕ → List ℕ
-left_by (read j) buffer = output_of j buffer
-left_by damaged buffer = buffer
+unfoldable pub left_by : Option Job → List ℕ → List ℕ
+left_by (Some j) buffer = output_of j buffer
+left_by None buffer = buffer

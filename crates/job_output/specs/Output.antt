@@ -1,7 +1,6 @@
 -- What the program writes (docs/RULES.md, "The job program").
-use Rattle.std.specs.Prelude.{ℕ, ◌≤◌, ◌≡◌, List, [], ◌∷◌, ◌++◌, length, take}
+use Rattle.std.specs.Prelude.{ℕ, ◌≤◌, List, [], ◌∷◌, ◌++◌, length, take, Result, Ok, Err, IfOk}
 use Rattle.number.specs.BigEndian.{enc}
-use Rattle.job_output.specs.declared.Reply.{Reply}
 
 -- a two-byte mark, a 4-byte length, a payload
 abbrev pub framed : ℕ → ℕ → List ℕ → List ℕ
@@ -15,24 +14,22 @@ accepted bytes = framed 0x4F 0x4B bytes
 unfoldable pub refused : ℕ → List ℕ
 refused number = framed 0x4E 0x4F (number ∷ [])
 
--- what a reply writes: so many bytes of its own, then so many of the work buffer
-unfoldable pub written_by : Reply → List ℕ → List ℕ
-written_by r buffer = take r.headlength r.head ++ take r.length buffer
+-- ---- the same of a reply, which has the result's length or the number
 
--- ---- the two replies
+-- the mark and the length
+unfoldable pub head_of : Result ℕ ℕ → List ℕ
+head_of (Ok n) = 0x4F ∷ 0x4B ∷ enc 4 n
+head_of (Err number) = 0x4E ∷ 0x4F ∷ enc 4 1
 
-unfoldable pub acceptance : ℕ → Reply
-acceptance n = record { head = 0x4F ∷ 0x4B ∷ (enc 4 n ++ (0 ∷ [])); headlength = 6; length = n }
+-- so many bytes of the work buffer, or the number
+unfoldable pub payload_of : Result ℕ ℕ → List ℕ → List ℕ
+payload_of (Ok n) buffer = take n buffer
+payload_of (Err number) buffer = number ∷ []
 
-unfoldable pub refusal : ℕ → Reply
-refusal number = record { head = 0x4E ∷ 0x4F ∷ (enc 4 1 ++ (number ∷ [])); headlength = 7; length = 0 }
+-- what a reply writes
+unfoldable pub written_by : Result ℕ ℕ → List ℕ → List ℕ
+written_by r buffer = head_of r ++ payload_of r buffer
 
--- ---- the parts that are written lie within what they are parts of
-
--- the second follows from the first; both are asked where a part is lent
-abbrev pub PartLength : ℕ → List ℕ → Type 0
-PartLength n xs = (n ≤ length xs) × (n ≡ length (take n xs))
-
-pub record Parts (r : Reply) (buffer : List ℕ) : Type 0 where
-  pub head : PartLength r.headlength r.head
-  pub bytes : PartLength r.length buffer
+-- the bytes that are written lie within the work buffer
+abbrev pub Parts : Result ℕ ℕ → List ℕ → Type 0
+Parts r buffer = IfOk r (λ n. n ≤ length buffer)

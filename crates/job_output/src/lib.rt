@@ -1,56 +1,36 @@
-// What the program writes: a few bytes of its own, then bytes of the work buffer; and which reply an answer or damaged bytes get.
+// What the program writes: which reply an answer or damaged bytes get, and a reply's bytes.
 #![tactic(auto)]
 
-ghost use Rattle.std.specs.Prelude.{◌≡◌, [], ◌∷◌, ◌++◌};
-ghost use Rattle.number.specs.BigEndian.{enc};
-ghost use Rattle.job_output.specs.Output.{acceptance, refusal};
-ghost use Rattle.job_input.specs.Job.{damaged};
+ghost use Rattle.std.specs.Prelude.{◌≡◌, None};
+ghost use Rattle.job_output.specs.Output.{head_of, payload_of, Parts};
 ghost use Rattle.job_output.specs.Answered.{reply_of, reply_to};
 
 use cmap_promise::Answer;
+use std::slice;
 
-// The first `headlength` bytes of head, then the first `length` bytes of the work buffer.
-#[derive(Clone, Copy)]
-pub struct Reply {
-    pub head: [u8; 7],
-    pub headlength: usize,
-    pub length: usize,
+// How many bytes of the work buffer are the result, or the number of a refusal.
+pub type Reply = Result<usize, u8>;
+
+// A reply's mark, and its payload's length in four bytes.
+pub fn head(reply: Reply) -> [u8; 6]
+    ensures { result ≡ head_of reply }
+{
+    let (mark, length) = match reply {
+        Ok(length) => (*b"OK", length),
+        Err(_) => (*b"NO", 1),
+    };
+    let [_, _, _, _, a, b, c, d] = length.to_be_bytes();
+    [mark[0], mark[1], a, b, c, d]
 }
 
-// A mark, a number in four bytes, and one more byte.
-fn head_of(a: u8, b: u8, n: usize, last: u8) -> [u8; 7]
-    ensures { result ≡ a ∷ b ∷ (enc 4 n ++ (last ∷ [])) }
+// The result's bytes, or the number.
+pub fn payload<'a>(reply: &'a Reply, buffer: &'a [u8]) -> &'a [u8]
+    requires { Parts reply.now buffer.now }
+    ensures { result.now ≡ payload_of reply.now buffer.now }
 {
-    [
-        a,
-        b,
-        (n / 256 / 256 / 256 % 256) as u8,
-        (n / 256 / 256 % 256) as u8,
-        (n / 256 % 256) as u8,
-        (n % 256) as u8,
-        last,
-    ]
-}
-
-// OK, and that many bytes of the work buffer.
-pub fn accept(length: usize) -> Reply
-    ensures { result ≡ acceptance length }
-{
-    Reply {
-        head: head_of(b'O', b'K', length, 0),
-        headlength: 6,
-        length,
-    }
-}
-
-// NO, and the number.
-pub fn refuse(number: u8) -> Reply
-    ensures { result ≡ refusal number }
-{
-    Reply {
-        head: head_of(b'N', b'O', 1, number),
-        headlength: 7,
-        length: 0,
+    match reply {
+        Ok(length) => &buffer[..*length],
+        Err(number) => slice::from_ref(number),
     }
 }
 
@@ -59,14 +39,14 @@ pub fn reply_of(answer: Answer) -> Reply
     ensures { result ≡ reply_of answer }
 {
     match answer {
-        Answer::Written { bytes, records: _ } => accept(bytes),
-        Answer::Refused(number) => refuse(number),
-        Answer::NoRoom(_) => refuse(10),
+        Answer::Written { bytes, records: _ } => Ok(bytes),
+        Answer::Refused(number) => Err(number),
+        Answer::NoRoom(_) => Err(10),
     }
 }
 
 pub fn damaged_reply() -> Reply
-    ensures { result ≡ reply_to damaged }
+    ensures { result ≡ reply_to None }
 {
-    refuse(12)
+    Err(12)
 }

@@ -1,56 +1,39 @@
 // Answers the jobs on standard input, each behind its length in four bytes, and writes the answers one after the other.
 #![tactic(auto)]
 
-ghost use Rattle.std.specs.Prelude.{◌≤◌, length};
-
 use job::INPUT_ROOM;
 
-fn write_answer(bytes: &[u8]) {
-    let mut out = [0u8; 32768];
-    let reply = job::answer(bytes, &mut out);
-    let head = reply.head;
-    let headlength = reply.headlength;
-    let length = reply.length;
-    io::write_all(1, &head[..headlength]);
-    io::write_all(1, &out[..length]);
-}
-
-// Fills the part, and answers what was read.
-fn answer_read(part: &mut [u8]) {
-    let n = io::read_full(0, part);
-    write_answer(&part[..n]);
-}
-
-fn answer_next(n: usize, room: &mut [u8])
-    requires { n ≤ length room.old }
-{
-    answer_read(&mut room[..n]);
-}
-
-// The next job's length; past the room where the input has ended.
-fn next_length() -> usize {
+// The next job's length, where the input has not ended.
+fn next_length() -> Option<usize> {
     let mut head = [0u8; 4];
-    let n = io::read_full(0, &mut head);
-    if n < 4 {
-        return INPUT_ROOM + 1;
+    if io::read_full(0, &mut head) < 4 {
+        return None;
     }
-    number::u32_at(&head, 0) as usize
+    Some(u32::from_be_bytes(head) as usize)
 }
 
+// Whether a job was there to answer.
 fn answer_one() -> bool {
-    let length = next_length();
+    let Some(length) = next_length() else {
+        return false;
+    };
     if length > INPUT_ROOM {
         return false;
     }
+    let mut out = [0u8; 32768];
     let mut input = [0u8; INPUT_ROOM];
-    answer_next(length, &mut input);
+    let n = io::read_full(0, &mut input[..length]);
+    let reply = job::answer(&input[..n], &mut out);
+    io::write_all(1, &job_output::head(reply));
+    io::write_all(1, job_output::payload(&reply, &out));
     true
 }
 
-// A proved loop has to end, and nothing says that the input does: the turns are counted down from a number that no run uses up.
+// A proved loop has to end, and nothing says that the input does: no run uses up so many turns.
 fn main() {
-    let mut turns = u64::MAX;
-    while turns > 0 && answer_one() {
-        turns -= 1;
+    for _ in 0..u64::MAX {
+        if !answer_one() {
+            return;
+        }
     }
 }

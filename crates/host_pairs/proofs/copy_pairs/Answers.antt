@@ -6,7 +6,6 @@ use Rattle.host_pairs.proofs.copy_pairs.Goals as goal
 
 pub loop-i-preserved : goal.loop-i-preserved
 loop-i-preserved c = record {
-  within = omega arith;
   codes_copied = column_step code _ _ _ _ c.loop-i.invariant.codes_copied (omega arith) (omega arith);
   glyphs_copied = column_step glyph _ _ _ _ c.loop-i.invariant.glyphs_copied (omega arith) (omega arith);
 }

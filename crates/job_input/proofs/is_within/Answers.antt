@@ -3,10 +3,10 @@ use Rattle.laws.proofs.ChoiceLaws.{tests}
 use Rattle.job_input.specs.Job.{within}
 use Rattle.job_input.proofs.is_within.Goals as goal
 
-pub returns-then-n-width-ne0 : goal.returns-then-n-width-ne0
+pub returns-then-n-width-eq0 : goal.returns-then-n-width-eq0
 unfolding within
-returns-then-n-width-ne0 c = search tests
+returns-then-n-width-eq0 c = search tests
 
-pub returns : goal.returns
+pub returns-else-n-width-eq0 : goal.returns-else-n-width-eq0
 unfolding within
-returns c = search tests
+returns-else-n-width-eq0 c = search tests

@@ -1,6 +1,0 @@
-use Rattle.host_told.proofs.TellLaws.{telling}
-use borrow.Author.Rules.{rules}
-use Rattle.host_told.proofs.tell_fate.Goals as goal
-
-pub returns : goal.returns
-returns c = search (rules, telling)
