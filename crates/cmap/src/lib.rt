@@ -14,10 +14,7 @@ pub fn subset(job: &Job, out: &mut [u8]) -> Answer
     ensures value { result ≡ answer_of (lent_job job.now) (length out.old) }
     ensures out_after { out.new ≡ output_of (lent_job job.now) out.old }
 {
-    let early = cmap_refusals::early_refusal(job);
-    if 0 < early {
-        return Answer::Refused(early);
-    }
+    cmap_refusals::early_refusal(job)?;
     cmap_rooms::carry_out(job, out)
 }
 
@@ -25,9 +22,8 @@ pub fn subset(job: &Job, out: &mut [u8]) -> Answer
 pub fn fate_of(job: &Job, k: usize) -> Fate
     ensures { result ≡ fate_of (lent_job job.now) k }
 {
-    let early = cmap_refusals::early_refusal(job);
-    if 0 < early {
-        return cmap_concluding::no_fate(FateKind::Refused(early));
+    if let Err(refusal) = cmap_refusals::early_refusal(job) {
+        return cmap_concluding::no_fate(FateKind::Refused(refusal));
     }
     cmap_rooms::tell(job, k)
 }

@@ -1,4 +1,5 @@
 -- Each way out of the functions that tell a fate by the plan tells record k's fate.
+use Rattle.std.specs.Prelude.{Result, Err}
 use Prim.Native.Nat.{ℕ, ◌≤◌, ◌<◌}
 use mathlib.Core.Path.{◌≡◌, refl}
 use mathlib.Core.List.{List}
@@ -14,7 +15,10 @@ use Rattle.plan.specs.declared.Outcome.TheVariants.{LeftOut, BadMapping, Served,
 use Rattle.result.specs.Result.{written_count}
 use Rattle.result.specs.Layout.{place_by_sizes}
 use Rattle.plan.specs.Outcomes.{at}
-use Rattle.result.specs.Refusal.{late_refusal}
+use Rattle.result.specs.declared.Refusal.{Refusal}
+use Rattle.result.specs.declared.Refusal.TheVariants.{NamesMissing}
+use Rattle.result.specs.Refusal.{refusal_told, late_refusal}
+use Rattle.result.proofs.RefusalLaws.{told_some, told_case, told_no_case}
 use Rattle.cmap_promise.specs.declared.Fate.{Fate}
 use Rattle.cmap_promise.specs.declared.FateKind.{FateKind}
 use Rattle.cmap_promise.specs.declared.FateKind.TheVariants.{WrittenAt, Refused, NoSuchRecord}
@@ -39,7 +43,7 @@ module _ (os : List Outcome) (k : ℕ) where
     pub kind_made : (n : ℕ) → at os k ≡ Made n → kind ≡ WrittenAt (place_by_sizes os k) → kind ≡ kind_of (place_by_sizes os) (at os k) k
     kind_made n e w = rw e w
 
-  pub kind_bad : at os k ≡ BadMapping → Refused 8 ≡ kind_of (place_by_sizes os) (at os k) k
+  pub kind_bad : at os k ≡ BadMapping → Refused NamesMissing ≡ kind_of (place_by_sizes os) (at os k) k
   kind_bad e = rw e refl
 
 pub ruleset kinds = (served_inside, kind_left, kind_served, kind_made, kind_bad)
@@ -53,19 +57,24 @@ module _ (xs : List ℕ) (os : List Outcome) (c : Concludes xs os) where
   pub concludes_counts : (count : ℕ) → count ≡ written_count os → count ≤ length os → Counts os count
   concludes_counts count e h = record { told = c.told; is = e; few = h }
 
-  module _ (k n : ℕ) (e : n ≡ late_refusal xs os) where
-    pub fate_refused : (r : Fate) → 0 < n → r ≡ no_fate (Refused n) → r ≡ fate_by xs os k
-    unfolding fate_by
-    fate_refused r h w = rw (← e, ne_eqb n 0 (λ z. omega (arith, h, z))) w
+  module _ (k : ℕ) (late : Result (Unit {0}) Refusal) (e : refusal_told late ≡ late_refusal xs os) where
+    abbrev n : ℕ
+    n = late_refusal xs os
 
-    pub fate_missing : (r : Fate) → n ≤ 0 → length os ≤ k → r ≡ no_fate NoSuchRecord → r ≡ fate_by xs os k
+    pub fate_refused : (r : Fate) (refusal : Refusal) → late ≡ Err refusal → r ≡ no_fate (Refused refusal) → r ≡ fate_by xs os k
     unfolding fate_by
-    fate_missing r h l w = rw (← e, eq-eqb n 0 (omega arith), le-ltb k (record_count xs) (omega (arith, c.all, l))) w
+    fate_refused r refusal q w =
+        let h = told_some late n e refusal q in
+        rw (← told_case late n e refusal q, ne_eqb n 0 (λ z. omega (arith, h, z))) w
 
-    pub fate_there : n ≤ 0 → k < length os → (r : EncodingRecord) (kind : FateKind) → r ≡ record_of xs k → kind ≡ kind_of (place_by_sizes os) (at os k) k
+    pub fate_missing : (r : Fate) → ((refusal : Refusal) → late ≡ Err refusal → ⊥) → length os ≤ k → r ≡ no_fate NoSuchRecord → r ≡ fate_by xs os k
+    unfolding fate_by
+    fate_missing r q l w = rw (eq-eqb n 0 (told_no_case late n e q), le-ltb k (record_count xs) (omega (arith, c.all, l))) w
+
+    pub fate_there : ((refusal : Refusal) → late ≡ Err refusal → ⊥) → k < length os → (r : EncodingRecord) (kind : FateKind) → r ≡ record_of xs k → kind ≡ kind_of (place_by_sizes os) (at os k) k
         → record { platform = r.platform; encoding = r.encoding; kind = kind } ≡ fate_by xs os k
     unfolding fate_by
-    fate_there h l r kind a b = rw (← e, eq-eqb n 0 (omega arith), lt-ltb k (record_count xs) (omega (arith, c.all, l)), a, b) refl
+    fate_there q l r kind a b = rw (eq-eqb n 0 (told_no_case late n e q), lt-ltb k (record_count xs) (omega (arith, c.all, l)), a, b) refl
 
   pub found_placed : (k : ℕ) → k < length os → Placed xs k
   found_placed k h = record { inside = omega (arith, h, c.all, c.counted.inside) }

@@ -1,5 +1,5 @@
 -- Inner: what a plan is to the rest of a call, and the step from it to the answer; no promise names it.
-use Rattle.std.specs.Prelude.{ℕ, ◌≡◌, List, length, ltb, eqb}
+use Rattle.std.specs.Prelude.{ℕ, ◌≡◌, List, length, ltb, eqb, Ok, Err}
 use Rattle.laws.specs.Choice.{pick}
 use Rattle.source_header.specs.Header.{record_count}
 use Rattle.source_records.specs.Records.{Counted}
@@ -8,10 +8,10 @@ use Rattle.plan.specs.declared.Outcome.{Outcome}
 use Rattle.plan.specs.Plan.{plan}
 use Rattle.result.specs.Result.{written_count}
 use Rattle.result.specs.Layout.{result_length}
-use Rattle.result.specs.Refusal.{early_refusal, late_refusal}
+use Rattle.result.specs.Refusal.{refusal_numbered, early_refusal, late_refusal}
 use Rattle.result_layout.specs.Counts.{OutcomesTold}
-use Rattle.cmap_promise.specs.declared.Answer.{Answer}
-use Rattle.cmap_promise.specs.declared.Answer.TheVariants.{Written, Refused, NoRoom}
+use Rattle.cmap_promise.specs.declared.Unwritten.TheVariants.{Refused, NoRoom}
+use Rattle.cmap_promise.specs.Cmap.{Answer}
 
 -- refusals 1 to 7 let the job pass
 pub record Passing (j : Job) : Type 0 where
@@ -32,4 +32,6 @@ pub record Concludes (xs : List ℕ) (os : List Outcome) : Type 0 where
 -- the answer where refusals 1 to 7 let pass, with room for so many bytes
 unfoldable pub answer_by : List ℕ → List Outcome → ℕ → Answer
 answer_by xs os room =
-    pick (eqb (late_refusal xs os) 0) (pick (ltb room (result_length os)) (NoRoom (result_length os)) (Written (result_length os) (written_count os))) (Refused (late_refusal xs os))
+    pick (eqb (late_refusal xs os) 0)
+    (pick (ltb room (result_length os)) (Err (NoRoom (result_length os))) (Ok (record { bytes = result_length os; records = written_count os })))
+    (Err (Refused (refusal_numbered (late_refusal xs os))))

@@ -6,7 +6,7 @@ use Rattle.plan.specs.declared.Outcome.{Outcome}
 use Rattle.plan.specs.declared.Outcome.TheVariants.{Served}
 use Rattle.plan.specs.Outcomes.{at}
 use Rattle.result.specs.Layout.{place_by_sizes}
-use Rattle.result.specs.Refusal.{late_refusal}
+use Rattle.result.specs.Refusal.{refusal_numbered, late_refusal}
 use Rattle.result_layout.specs.Counts.{OutcomesTold}
 use Rattle.cmap_promise.specs.declared.Fate.{Fate}
 use Rattle.cmap_promise.specs.declared.FateKind.TheVariants.{Refused, NoSuchRecord}
@@ -20,4 +20,4 @@ pub record ServersThere (os : List Outcome) : Type 0 where
 -- what becomes of record k where refusals 1 to 7 let pass
 unfoldable pub fate_by : List ℕ → List Outcome → ℕ → Fate
 fate_by xs os k =
-    pick (eqb (late_refusal xs os) 0) (pick (ltb k (record_count xs)) (record_fate (place_by_sizes os) xs os k) (no_fate NoSuchRecord)) (no_fate (Refused (late_refusal xs os)))
+    pick (eqb (late_refusal xs os) 0) (pick (ltb k (record_count xs)) (record_fate (place_by_sizes os) xs os k) (no_fate NoSuchRecord)) (no_fate (Refused (refusal_numbered (late_refusal xs os))))

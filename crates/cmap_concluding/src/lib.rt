@@ -10,8 +10,9 @@ ghost use Rattle.cmap_concluding.specs.Concluding.{Concludes, answer_by};
 ghost use Rattle.cmap_concluding.specs.Found.{fate_by, ServersThere};
 ghost use Rattle.plan.specs.Outcomes.{at};
 
-use cmap_promise::{Answer, Fate, FateKind};
+use cmap_promise::{Answer, Fate, FateKind, Unwritten, Written};
 use plan::{Outcome, Why};
+use result::Refusal;
 
 // ---- the answer
 
@@ -20,19 +21,13 @@ pub fn answer_by(s: &[u8], outcomes: &[Outcome], room: usize) -> Answer
     requires { Concludes s.now outcomes.now }
     ensures { result ≡ answer_by s.now outcomes.now room }
 {
-    let late = cmap_refusals::late_refusal(s, outcomes);
-    if 0 < late {
-        return Answer::Refused(late);
+    cmap_refusals::late_refusal(s, outcomes)?;
+    let records = result_layout::count_written(outcomes);
+    let bytes = result_layout::result_length(outcomes, records);
+    if room < bytes {
+        return Err(Unwritten::NoRoom(bytes));
     }
-    let count = result_layout::count_written(outcomes);
-    let needed = result_layout::result_length(outcomes, count);
-    if room < needed {
-        return Answer::NoRoom(needed);
-    }
-    Answer::Written {
-        bytes: needed,
-        records: count,
-    }
+    Ok(Written { bytes, records })
 }
 
 // ---- a fate
@@ -77,7 +72,7 @@ fn kind_of(outcomes: &[Outcome], k: usize) -> FateKind
 {
     match outcomes[k] {
         Outcome::LeftOut(why) => left_out_as(why),
-        Outcome::BadMapping => FateKind::Refused(8),
+        Outcome::BadMapping => FateKind::Refused(Refusal::NamesMissing),
         Outcome::Served(by) => written_at(outcomes, by),
         Outcome::Made(_) => written_at(outcomes, k),
     }
@@ -89,9 +84,8 @@ pub fn fate_by(s: &[u8], outcomes: &[Outcome], k: usize) -> Fate
     requires servers_there { ServersThere outcomes.now }
     ensures { result ≡ fate_by s.now outcomes.now k }
 {
-    let late = cmap_refusals::late_refusal(s, outcomes);
-    if 0 < late {
-        return no_fate(FateKind::Refused(late));
+    if let Err(refusal) = cmap_refusals::late_refusal(s, outcomes) {
+        return no_fate(FateKind::Refused(refusal));
     }
     if outcomes.len() <= k {
         return no_fate(FateKind::NoSuchRecord);

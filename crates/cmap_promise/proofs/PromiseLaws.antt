@@ -1,4 +1,5 @@
 -- What the promise of the call comes to: each number exactly when it is due, nothing written by a refusal, the result and the output's rest by an acceptance, and one answer only.
+use Rattle.std.specs.Prelude.{Ok, Err}
 use Prim.Native.Nat.{ℕ, ◌+◌, ◌<◌, ◌≤◌}
 use mathlib.Core.Path.{◌≡◌, refl, sym, ap, subst, ◌∙◌}
 use mathlib.Core.List.{List, ◌∷◌, ◌++◌}
@@ -24,15 +25,15 @@ use Rattle.plan.specs.Outcomes.{is_bad}
 use Rattle.plan.specs.Plan.{plan, refused8}
 use Rattle.result.specs.Result.{written_count, new_offset}
 use Rattle.plan.specs.Outcomes.{at}
-use Rattle.result.specs.Refusal.{Refusal, first_of, refusal_of, rises}
-use Rattle.result.proofs.RefusalLaws.{GivenExactly, given_exactly, Accepted, accepted_exactly, passed}
-use Rattle.cmap_promise.specs.declared.Answer.{Answer}
-use Rattle.cmap_promise.specs.declared.Answer.TheVariants.{Written, Refused, NoRoom}
+use Rattle.result.specs.Refusal.{refusal_number, refusal_numbered, Condition, first_of, refusal_of, rises}
+use Rattle.result.proofs.RefusalLaws.{GivenExactly, given_exactly, Accepted, accepted_exactly, passed, number_of_numbered}
+use Rattle.cmap_promise.specs.declared.Written.{Written}
+use Rattle.cmap_promise.specs.declared.Unwritten.TheVariants.{Refused, NoRoom}
 use Rattle.cmap_promise.specs.declared.Fate.{Fate}
 use Rattle.cmap_promise.specs.declared.FateKind.TheVariants.{Refused as FateRefused, NoSuchRecord}
 use Rattle.cmap_promise.specs.Fates.{fate_number_of, left_out_as, kind_of, record_fate, no_fate, fate_of}
-use Rattle.cmap_promise.specs.Cmap.{number_of, length_of, result, refusals_in, number_in, answer_of, leaves, output_of}
-use Rattle.cmap_promise.proofs.NumberLaws.{number_refused, number_passed}
+use Rattle.cmap_promise.specs.Cmap.{Answer, number_of, length_of, result, refusals_in, number_in, answer_of, leaves, output_of}
+use Rattle.cmap_promise.proofs.NumberLaws.{number_refused, number_passed, refusal_low}
 
 -- ---- the number
 
@@ -41,30 +42,36 @@ unfolding rises
 all_rise j room = refl
 
 -- a refusal's number is given exactly when its condition holds and none before it does
-pub numbered_exactly : (j : Job) (room : ℕ) (front back : List Refusal) (n : ℕ) (b : Bool) → refusals_in j room ≡ front ++ ((n, b) ∷ back) → GivenExactly (number_in j room) front n b
+pub numbered_exactly : (j : Job) (room : ℕ) (front back : List Condition) (n : ℕ) (b : Bool) → refusals_in j room ≡ front ++ ((n, b) ∷ back) → GivenExactly (number_in j room) front n b
 unfolding number_in
 numbered_exactly j room front back n b e =
-    let r = subst (λ (cs : List Refusal). rises 0 cs ≡ true) e (all_rise j room) in
-    subst (λ (cs : List Refusal). GivenExactly (first_of cs) front n b) (sym e) (given_exactly front back n b r)
+    let r = subst (λ (cs : List Condition). rises 0 cs ≡ true) e (all_rise j room) in
+    subst (λ (cs : List Condition). GivenExactly (first_of cs) front n b) (sym e) (given_exactly front back n b r)
 
 -- an acceptance exactly where no condition holds
 pub accepted_exactly_in : (j : Job) (room : ℕ) → Accepted (number_in j room) (refusals_in j room)
 unfolding number_in
 accepted_exactly_in j room = accepted_exactly (refusals_in j room) (all_rise j room)
 
+-- the number of the refusal that an answer or a fate tells
+told_number : (j : Job) → eqb (refusal_of j) 0 ≡ false → refusal_number (refusal_numbered (refusal_of j)) ≡ refusal_of j
+told_number j z =
+    let n = eqb-false (refusal_of j) 0 z in
+    number_of_numbered (refusal_of j) (omega (arith, n)) (refusal_low j)
+
 -- the answer's own number
 pub number_answered : (j : Job) (room : ℕ) → number_of (answer_of j room) ≡ number_in j room
 unfolding answer_of
 number_answered j room =
-    let accepted = Written (length (result j)) (written_count (plan j)) in
-    let short = NoRoom (length (result j)) in
-    by_pick (λ a. number_of a ≡ number_in j room) (eqb (refusal_of j) 0) (pick (ltb room (length (result j))) short accepted) (Refused (refusal_of j))
+    let accepted : Answer = Ok (record { bytes = length (result j); records = written_count (plan j) }) in
+    let short : Answer = Err (NoRoom (length (result j))) in
+    by_pick (λ a. number_of a ≡ number_in j room) (eqb (refusal_of j) 0) (pick (ltb room (length (result j))) short accepted) (Err (Refused (refusal_numbered (refusal_of j))))
     (λ z.
     let e = number_passed j room (eqb-true (refusal_of j) 0 z) in
     by_pick (λ a. number_of a ≡ number_in j room) (ltb room (length (result j))) short accepted (λ t. rw (e, t) refl) (λ t. rw (e, t) refl))
     (λ z.
     let n = eqb-false (refusal_of j) 0 z in
-    sym (number_refused j room (omega (arith, n))))
+    told_number j z ∙ sym (number_refused j room (omega (arith, n))))
 
 -- ---- an acceptance
 
@@ -83,15 +90,14 @@ accepted_fits j room e =
     go true f = absurd (omega arith)
     go false f = refl
 
-accepted_answer : (j : Job) (room : ℕ) → number_in j room ≡ 0 → answer_of j room ≡ Written (length (result j)) (written_count (plan j))
+accepted_answer : (j : Job) (room : ℕ) → number_in j room ≡ 0 → answer_of j room ≡ Ok (record { bytes = length (result j); records = written_count (plan j) })
 unfolding answer_of
 accepted_answer j room e = rw (eq-eqb (refusal_of j) 0 (accepted_passed j room e), le-ltb room (length (result j)) (accepted_fits j room e)) refl
 
 -- an answer with a number leaves the output
 number_keeps : (a : Answer) (new out : List ℕ) → 0 < number_of a → leaves a new out ≡ out
-number_keeps (Written bytes records) new out h = absurd (omega arith)
-number_keeps (Refused number) new out h = refl
-number_keeps (NoRoom bytes) new out h = refl
+number_keeps (Ok written) new out h = absurd (omega arith)
+number_keeps (Err unwritten) new out h = refl
 
 module _ (j : Job) (out : List ℕ) where
   pub accepted_output : number_in j (length out) ≡ 0 → output_of j out ≡ laid (result j) out
@@ -102,7 +108,7 @@ module _ (j : Job) (out : List ℕ) where
   unfolding output_of
   refused_output h = number_keeps (answer_of j (length out)) (result j) out (omega (arith, h, number_answered j (length out)))
 
-  module _ (n k : ℕ) (w : answer_of j (length out) ≡ Written n k) where
+  module _ (a : Written) (w : answer_of j (length out) ≡ Ok a) where
     accepted : number_in j (length out) ≡ 0
     accepted = sym (number_answered j (length out)) ∙ ap number_of w
 
@@ -110,14 +116,14 @@ module _ (j : Job) (out : List ℕ) where
     pub written_passed : refusal_of j ≡ 0
     written_passed = accepted_passed j (length out) accepted
 
-    pub written_length : n ≡ length (result j)
+    pub written_length : a.bytes ≡ length (result j)
     written_length = ap length_of (sym w ∙ accepted_answer j (length out) accepted)
 
     -- what is written stands in the first places
-    pub written_fits : n ≤ length (output_of j out)
+    pub written_fits : a.bytes ≤ length (output_of j out)
     written_fits = rw (accepted_output accepted, written_length) (omega (arith, length-append (result j) (drop (length (result j)) out)))
 
-    pub written_front : take n (output_of j out) ≡ result j
+    pub written_front : take a.bytes (output_of j out) ≡ result j
     written_front = rw (accepted_output accepted, written_length) (take_at (result j) (drop (length (result j)) out) (length (result j)) refl)
 
 -- ---- one answer only
@@ -160,7 +166,7 @@ fate_number j k =
     let count = record_count j.source in
     let fate = record_fate (new_offset j os) j.source os k in
     let P : Fate → Type 0 = λ f. fate_number_of f.kind ≡ refusal_of j in
-    by_pick P (eqb (refusal_of j) 0) (pick (ltb k count) fate (no_fate NoSuchRecord)) (no_fate (FateRefused (refusal_of j)))
+    by_pick P (eqb (refusal_of j) 0) (pick (ltb k count) fate (no_fate NoSuchRecord)) (no_fate (FateRefused (refusal_numbered (refusal_of j))))
     (λ e.
     let z = eqb-true (refusal_of j) 0 e in
     let none = sym (any_of-some is_bad (LeftOut NotRetained) os) ∙ (passed j z).mappings in
@@ -168,4 +174,4 @@ fate_number j k =
     (λ l.
     kind_number_lem (new_offset j os) (at os k) k (some-false (λ i. is_bad (at os i)) (length os) 0 none k (omega arith) (omega (arith, ltb-true k count l, length-plan j))) ∙ sym z)
     (λ l. sym z))
-    (λ e. refl)
+    (λ e. told_number j e)

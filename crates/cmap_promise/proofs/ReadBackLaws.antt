@@ -60,7 +60,7 @@ is_written_at FateSkipped = false
 is_written_at FateEmpty = false
 is_written_at FateTooLong = false
 is_written_at FateCovered = false
-is_written_at (Refused number) = false
+is_written_at (Refused refusal) = false
 is_written_at NoSuchRecord = false
 
 abbrev offset_in : FateKind → ℕ
@@ -70,7 +70,7 @@ offset_in FateSkipped = 0
 offset_in FateEmpty = 0
 offset_in FateTooLong = 0
 offset_in FateCovered = 0
-offset_in (Refused number) = 0
+offset_in (Refused refusal) = 0
 offset_in NoSuchRecord = 0
 
 written_kind : (offset : ℕ → ℕ) (o : Outcome) (k : ℕ) → is_written o ≡ true → kind_of offset o k ≡ WrittenAt (offset (maker_of o k))

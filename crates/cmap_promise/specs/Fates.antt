@@ -10,7 +10,8 @@ use Rattle.plan.specs.declared.Outcome.TheVariants.{LeftOut, BadMapping, Served,
 use Rattle.plan.specs.Plan.{plan}
 use Rattle.result.specs.Result.{new_offset}
 use Rattle.plan.specs.Outcomes.{at}
-use Rattle.result.specs.Refusal.{refusal_of}
+use Rattle.result.specs.declared.Refusal.TheVariants.{NamesMissing}
+use Rattle.result.specs.Refusal.{refusal_number, refusal_numbered, refusal_of}
 use Rattle.cmap_promise.specs.declared.Fate.{Fate}
 use Rattle.cmap_promise.specs.declared.FateKind.{FateKind}
 use Rattle.cmap_promise.specs.declared.FateKind.TheVariants.{NotRetained as FateNotRetained, Skipped as FateSkipped, Empty as FateEmpty, TooLong as FateTooLong, Covered as FateCovered, WrittenAt, Refused, NoSuchRecord}
@@ -26,7 +27,7 @@ left_out_as Covered = FateCovered
 -- refused before any fate is told
 abbrev pub kind_of : (ℕ → ℕ) → Outcome → ℕ → FateKind
 kind_of offset (LeftOut why) k = left_out_as why
-kind_of offset BadMapping k = Refused 8
+kind_of offset BadMapping k = Refused NamesMissing
 kind_of offset (Served by) k = WrittenAt (offset by)
 kind_of offset (Made size) k = WrittenAt (offset k)
 
@@ -43,7 +44,7 @@ unfoldable pub fate_of : Job → ℕ → Fate
 fate_of j k =
     pick (eqb (refusal_of j) 0)
     (pick (ltb k (record_count j.source)) (record_fate (new_offset j (plan j)) j.source (plan j) k) (no_fate NoSuchRecord))
-    (no_fate (Refused (refusal_of j)))
+    (no_fate (Refused (refusal_numbered (refusal_of j))))
 
 -- the number of the answer: 0 but for a refusal
 abbrev pub fate_number_of : FateKind → ℕ
@@ -53,5 +54,5 @@ fate_number_of FateEmpty = 0
 fate_number_of FateTooLong = 0
 fate_number_of FateCovered = 0
 fate_number_of (WrittenAt offset) = 0
-fate_number_of (Refused number) = number
+fate_number_of (Refused refusal) = refusal_number refusal
 fate_number_of NoSuchRecord = 0

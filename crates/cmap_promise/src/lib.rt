@@ -1,15 +1,35 @@
 // What a call promises: its answer, its output, and what became of each record. Definitions and laws; `cmap` keeps the promise.
 #![tactic(auto)]
 
-// Refused holds a number from 1 to 9, NoRoom the length that the output would need.
+ghost use Rattle.std.specs.Prelude.{◌≡◌};
+ghost use Rattle.cmap_promise.specs.declared.Unwritten.TheVariants.{Refused};
+
+use result::Refusal;
+
+// The length of a result, and how many records were written.
 #[derive(Clone, Copy)]
-pub enum Answer {
-    Written { bytes: usize, records: usize },
-    Refused(u8),
+pub struct Written {
+    pub bytes: usize,
+    pub records: usize,
+}
+
+// NoRoom, which is refusal 10, holds the length that the output would need.
+#[derive(Clone, Copy)]
+pub enum Unwritten {
+    Refused(Refusal),
     NoRoom(usize),
 }
 
-// Refused holds a number from 1 to 9.
+impl From<Refusal> for Unwritten {
+    ghost from_gives = { λ refusal r. r ≡ Refused refusal };
+
+    fn from(refusal: Refusal) -> Self {
+        Unwritten::Refused(refusal)
+    }
+}
+
+pub type Answer = Result<Written, Unwritten>;
+
 #[derive(Clone, Copy)]
 pub enum FateKind {
     NotRetained,
@@ -18,7 +38,7 @@ pub enum FateKind {
     TooLong,
     Covered,
     WrittenAt(usize),
-    Refused(u8),
+    Refused(Refusal),
     NoSuchRecord,
 }
 

@@ -1,11 +1,10 @@
 -- What the functions come to test by test, and what a job that refusals 1 to 7 let pass holds to.
-use Rattle.std.specs.Prelude.{Option, Some, None}
+use Rattle.std.specs.Prelude.{Option, Some, None, Result, Ok, Err}
 use Prim.Native.Nat.{ℕ, ◌≤◌}
-use mathlib.Core.Path.{◌≡◌, refl, sym, ◌∙◌}
+use mathlib.Core.Path.{◌≡◌, refl, sym, ap, ◌∙◌}
 use mathlib.Core.List.{List}
 use native.Mathlib.Omega.{arith}
 use lib.ListN.{length}
-use Rattle.laws.specs.Choice.{if_eq}
 use Rattle.number.specs.BigEndian.{Bytes}
 use Rattle.source_header.specs.Header.{header_of}
 use Rattle.source_header.proofs.HeaderLaws.{accepted_of, not_refused, tells_records, tells_refused}
@@ -15,8 +14,10 @@ use Rattle.plan_listing.specs.Job.{Job, glyph_count}
 use Rattle.plan.specs.Prepared.{Prepared}
 use Rattle.result.specs.Lent.{Lent}
 use Rattle.result.proofs.LentLaws.{lent}
-use Rattle.result.specs.Refusal.{list_refusals, source_refusals, early_refusal, rises}
-use Rattle.result.proofs.RefusalLaws.{first_of_lem, early_passed}
+use Rattle.result.specs.declared.Refusal.{Refusal}
+use Rattle.result.specs.declared.Refusal.TheVariants.{BadHeader}
+use Rattle.result.specs.Refusal.{refusal_told, list_refusals, source_refusals, early_refusal, rises}
+use Rattle.result.proofs.RefusalLaws.{first_append, first_stays, told_some, told_none, early_passed}
 use Rattle.cmap_refusals.specs.Refusing.{list_refusal, source_refusal, format_refusal}
 
 -- ---- the header
@@ -27,11 +28,11 @@ module _ (xs : List ℕ) (h : Option ℕ) where
       let a = tells_records xs (sym q ∙ e) in
       record { is = a.count; inside = a.fits }
 
-  pub header_refused : h ≡ header_of xs → h ≡ None → 5 ≡ source_refusal xs
+  pub header_refused : h ≡ header_of xs → h ≡ None → refusal_told (Err BadHeader) ≡ source_refusal xs
   unfolding source_refusal
   header_refused q e = rw (tells_refused xs (sym q ∙ e))
 
-  pub header_passed : (m r : ℕ) → h ≡ header_of xs → h ≡ Some m → r ≡ format_refusal xs → r ≡ source_refusal xs
+  pub header_passed : (m : ℕ) (r : Result (Unit {0}) Refusal) → h ≡ header_of xs → h ≡ Some m → refusal_told r ≡ format_refusal xs → refusal_told r ≡ source_refusal xs
   unfolding source_refusal format_refusal
   header_passed m r q e f = rw (not_refused xs (tells_records xs (sym q ∙ e))) f
 
@@ -39,9 +40,17 @@ pub ruleset by_header = (header_counts, header_refused, header_passed)
 
 -- ---- lists before the source
 
-pub lists_first : (j : Job) (lists source r : ℕ) → lists ≡ list_refusal j → source ≡ source_refusal j.source → r ≡ if_eq lists 0 source lists → r ≡ early_refusal j
-unfolding list_refusal source_refusal early_refusal if_eq rises
-lists_first j lists source r a b e = rw (a, b) at e ∙ first_of_lem (list_refusals j) (source_refusals j.source) refl
+module _ (j : Job) (lists : Result (Unit {0}) Refusal) (e : refusal_told lists ≡ list_refusal j) where
+  pub lists_refused : (refusal : Refusal) → lists ≡ Err refusal → refusal_told (Err refusal) ≡ early_refusal j
+  unfolding list_refusal early_refusal
+  lists_refused refusal q =
+      ap refusal_told (sym q) ∙ e ∙ sym (first_stays (list_refusals j) (source_refusals j.source) (told_some lists (list_refusal j) e refusal q))
+
+  pub lists_passed : (u : Unit {0}) (r : Result (Unit {0}) Refusal) → lists ≡ Ok u → refusal_told r ≡ source_refusal j.source → refusal_told r ≡ early_refusal j
+  unfolding list_refusal source_refusal early_refusal rises
+  lists_passed u r q f = f ∙ sym (first_append (list_refusals j) (source_refusals j.source) refl (told_none lists (list_refusal j) e u q))
+
+pub ruleset lists_first = (lists_refused, lists_passed)
 
 -- ---- what a job holds to that they let pass
 

@@ -4,19 +4,20 @@
 ghost use Rattle.plan_listing.specs.Lent.{lent_job};
 ghost use Rattle.std.specs.Prelude.{◌≡◌, ◌<◌, length};
 ghost use Rattle.std.specs.List.{list_any};
-ghost use Rattle.laws.specs.Choice.{if_eq, either};
+ghost use Rattle.laws.specs.Choice.{either};
 ghost use Rattle.source_records.specs.Records.{Counted, leads_to_format, Placed};
-ghost use Rattle.result.specs.Refusal.{early_refusal, late_refusal};
+ghost use Rattle.result.specs.Refusal.{early_refusal, late_refusal, refusal_told};
 ghost use Rattle.cmap_refusals.specs.Refusing.{list_refusal, source_refusal, format_refusal};
 ghost use Rattle.plan.specs.Outcomes.{is_bad};
 ghost use Rattle.plan.specs.Plan.{refused8, refused9, made_plain};
 
 use plan::Outcome;
 use plan_listing::Job;
+use result::Refusal;
 
 // Refusals 1 to 4. That the points rise, which 3 asks for, and the bounds of n, which 4 asks for, are known by then.
-fn list_refusal(job: &Job) -> u8
-    ensures { result ≡ list_refusal (lent_job job.now) }
+fn list_refusal(job: &Job) -> Result<(), Refusal>
+    ensures { refusal_told result ≡ list_refusal (lent_job job.now) }
 {
     let n = job.map.len();
     if lists_checks::bad_sizes(
@@ -27,59 +28,50 @@ fn list_refusal(job: &Job) -> u8
         n,
         job.requested.len(),
     ) {
-        return 1;
+        return Err(Refusal::BadSizes);
     }
     if lists_checks::bad_pairs(job.codes, job.glyphs) {
-        return 2;
+        return Err(Refusal::BadPairs);
     }
     if lists_checks::bad_kept(job.kept, job.codes) {
-        return 3;
+        return Err(Refusal::BadKept);
     }
     if lists_checks::bad_requested(n, job.requested) {
-        return 4;
+        return Err(Refusal::BadRequested);
     }
-    0
+    Ok(())
 }
 
 // Refusals 6 and 7.
-fn format_refusal(s: &[u8], m: usize) -> u8
+fn format_refusal(s: &[u8], m: usize) -> Result<(), Refusal>
     requires { Counted s.now m }
-    ensures { result ≡ format_refusal s.now }
+    ensures { refusal_told result ≡ format_refusal s.now }
 {
     if source_retained::lacks_bmp(s, m) {
-        return 6;
+        return Err(Refusal::LacksBmp);
     }
     if source_retained::lacks_full(s, m) {
-        return 7;
+        return Err(Refusal::LacksFull);
     }
-    0
+    Ok(())
 }
 
 // Refusals 5 to 7.
-fn source_refusal(s: &[u8]) -> u8
-    ensures { result ≡ source_refusal s.now }
+fn source_refusal(s: &[u8]) -> Result<(), Refusal>
+    ensures { refusal_told result ≡ source_refusal s.now }
 {
     match source_header::header_of(s) {
-        None => 5,
+        None => Err(Refusal::BadHeader),
         Some(m) => format_refusal(s, m),
     }
 }
 
-// The first of two answers; 0 is none.
-fn first_of(a: u8, b: u8) -> u8
-    ensures { result ≡ if_eq a 0 b a }
+// Refusals 1 to 7.
+pub fn early_refusal(job: &Job) -> Result<(), Refusal>
+    ensures { refusal_told result ≡ early_refusal (lent_job job.now) }
 {
-    if a == 0 {
-        return b;
-    }
-    a
-}
-
-// Refusals 1 to 7; 0 where none of them holds.
-pub fn early_refusal(job: &Job) -> u8
-    ensures { result ≡ early_refusal (lent_job job.now) }
-{
-    first_of(list_refusal(job), source_refusal(job.source))
+    list_refusal(job)?;
+    source_refusal(job.source)
 }
 
 // Whether a mapping of some record names a missing glyph.
@@ -121,16 +113,16 @@ fn lacks_plain(s: &[u8], outcomes: &[Outcome]) -> bool
     !laws::some(outcomes.len(), |k| made_plain(s, outcomes, k))
 }
 
-// Refusals 8 and 9 of a plan that has these outcomes; 0 where neither holds.
-pub fn late_refusal(s: &[u8], outcomes: &[Outcome]) -> u8
+// Refusals 8 and 9 of a plan that has these outcomes.
+pub fn late_refusal(s: &[u8], outcomes: &[Outcome]) -> Result<(), Refusal>
     requires { Counted s.now (length outcomes.now) }
-    ensures { result ≡ late_refusal s.now outcomes.now }
+    ensures { refusal_told result ≡ late_refusal s.now outcomes.now }
 {
     if names_missing(outcomes) {
-        return 8;
+        return Err(Refusal::NamesMissing);
     }
     if lacks_plain(s, outcomes) {
-        return 9;
+        return Err(Refusal::LacksPlain);
     }
-    0
+    Ok(())
 }

@@ -52,8 +52,8 @@ fn write_result(
     requires answered { answer ≡ answer_by job.now.source.now (outcomes_in (record_count job.now.source.now) notes.now) (length out.old) }
     ensures { out.new ≡ output_of (lent_job job.now) out.old }
 {
-    if let Answer::Written { records, .. } = answer {
-        result_writer::serialize_cmap(out, job, flags, tocodes, toglyphs, notes, records);
+    if let Ok(written) = answer {
+        result_writer::serialize_cmap(out, job, flags, tocodes, toglyphs, notes, written.records);
     }
 }
 

@@ -1,4 +1,5 @@
 -- 1 is told exactly where a size is broken, so what is left in the work room goes by the number told (docs/RULES.md, "What is lent").
+use Rattle.std.specs.Prelude.{Err}
 use Prim.Native.Nat.{ℕ}
 use mathlib.Core.Path.{◌≡◌, refl, sym, ap, ◌∙◌}
 use mathlib.Core.List.{List, [], ◌∷◌}
@@ -12,10 +13,11 @@ use Rattle.laws.specs.Lists.{laid}
 use Rattle.laws.proofs.ChoiceLaws.{false-true}
 use Rattle.lists_checks.specs.Checks.{bad_sizes}
 use Rattle.plan_listing.specs.Job.{Job}
-use Rattle.result.specs.Refusal.{Refusal, first_of, refusals, refusal_of}
+use Rattle.result.specs.Refusal.{Condition, first_of, refusals, refusal_of}
 use Rattle.host_pairs.specs.declared.PairRecord.{PairRecord}
 use Rattle.host_pairs.specs.Pairs.{code, glyph, codes_of, glyphs_of}
-use Rattle.cmap_promise.specs.declared.Answer.TheVariants.{Refused}
+use Rattle.result.specs.declared.Refusal.TheVariants.{BadSizes}
+use Rattle.cmap_promise.specs.declared.Unwritten.TheVariants.{Refused}
 use Rattle.cmap_promise.specs.declared.FateKind.TheVariants.{Refused as FateRefused}
 use Rattle.cmap_promise.specs.Cmap.{number_of, refusals_in, number_in, answer_of}
 use Rattle.cmap_promise.specs.Fates.{fate_number_of, no_fate, fate_of}
@@ -24,15 +26,15 @@ use Rattle.host_calls.specs.Calls.{broken, job_of, subset_of, record_fate_of, co
 
 -- ---- 1 stands first among the refusals, and nowhere else
 
-abbrev others : List Refusal → Bool
+abbrev others : List Condition → Bool
 others [] = true
 others (c ∷ cs) = pick (eqb c.0 1) false (others cs)
 
-abbrev later : List Refusal → List Refusal
+abbrev later : List Condition → List Condition
 later [] = []
 later (c ∷ cs) = cs
 
-not_one : (cs : List Refusal) → others cs ≡ true → first_of cs ≡ 1 → ⊥
+not_one : (cs : List Condition) → others cs ≡ true → first_of cs ≡ 1 → ⊥
 not_one [] h e = omega (arith, e)
 not_one (c ∷ cs) h e = one_more (not_one cs) c.1 (eqb c.0 1) refl h e
   where
@@ -41,7 +43,7 @@ not_one (c ∷ cs) h e = one_more (not_one cs) c.1 (eqb c.0 1) refl h e
     one_more k true false q h e = eqb-false c.0 1 q e
     one_more k false false q h e = k h e
 
-first_one : (t : Bool) (cs : List Refusal) → others cs ≡ true → first_of ((1, t) ∷ cs) ≡ 1 → t ≡ true
+first_one : (t : Bool) (cs : List Condition) → others cs ≡ true → first_of ((1, t) ∷ cs) ≡ 1 → t ≡ true
 first_one true cs h e = refl
 first_one false cs h e = absurd (not_one cs h e)
 
@@ -81,7 +83,7 @@ module _ (source : List ℕ) (pairs : List PairRecord) (codes glyphs kept new_gl
     told1 = eqb (number_of (subset_of source pairs codes glyphs kept new_glyphs requested room)) 1
 
     pub one_exactly : told1 ≡ bad
-    one_exactly = by_number bad (λ t. number_of (pick t (Refused 1) (answer_of j room))) refl (λ q. in_room room (sym (number_answered j room) ∙ q))
+    one_exactly = by_number bad (λ t. number_of (pick t (Err (Refused BadSizes)) (answer_of j room))) refl (λ q. in_room room (sym (number_answered j room) ∙ q))
 
     pub codes_left : codes_after source pairs codes glyphs kept new_glyphs requested ≡ pick told1 codes (laid (codes_of pairs) codes)
     codes_left = ap (λ (t : Bool). pick t codes (laid (codes_of pairs) codes)) (sym one_exactly)
@@ -91,4 +93,4 @@ module _ (source : List ℕ) (pairs : List PairRecord) (codes glyphs kept new_gl
 
   -- the fates
   pub one_exactly_fate : (k : ℕ) → eqb (fate_number_of (record_fate_of source pairs codes glyphs kept new_glyphs requested k).kind) 1 ≡ bad
-  one_exactly_fate k = by_number bad (λ t. fate_number_of (pick t (no_fate (FateRefused 1)) (fate_of j k)).kind) refl (λ q. of_job (sym (fate_number j k) ∙ q))
+  one_exactly_fate k = by_number bad (λ t. fate_number_of (pick t (no_fate (FateRefused BadSizes)) (fate_of j k)).kind) refl (λ q. of_job (sym (fate_number j k) ∙ q))

@@ -2,7 +2,7 @@
 use Rattle.std.specs.Prelude.{Result}
 use Prim.Native.Nat.{ℕ}
 use mathlib.Core.Path.{◌≡◌, ap, ◌∙◌}
-use Rattle.cmap_promise.specs.declared.Answer.{Answer}
+use Rattle.cmap_promise.specs.Cmap.{Answer}
 use Rattle.cmap_promise.specs.declared.Fate.{Fate}
 use Rattle.heads.specs.declared.HeadRefusal.{HeadRefusal}
 use Rattle.heads.specs.Heads.{head_number_of, printed_of}

@@ -1,10 +1,9 @@
 -- Answers as a host gets them: each enum told in numbers (docs/RULES.md, "Numbers of refusal" and "Records").
 use Rattle.std.specs.Prelude.{ℕ, Result}
-use Rattle.cmap_promise.specs.declared.Answer.{Answer}
 use Rattle.cmap_promise.specs.declared.Fate.{Fate}
 use Rattle.cmap_promise.specs.declared.FateKind.{FateKind}
 use Rattle.cmap_promise.specs.declared.FateKind.TheVariants.{NotRetained, Skipped, Empty, TooLong, Covered, WrittenAt, Refused, NoSuchRecord}
-use Rattle.cmap_promise.specs.Cmap.{number_of, length_of, records_of}
+use Rattle.cmap_promise.specs.Cmap.{Answer, number_of, length_of, records_of}
 use Rattle.cmap_promise.specs.Fates.{fate_number_of}
 use Rattle.heads.specs.declared.HeadRefusal.{HeadRefusal}
 use Rattle.heads.specs.Heads.{head_number_of, printed_of}
@@ -23,7 +22,7 @@ kind_number TooLong = 3
 kind_number Covered = 4
 kind_number (WrittenAt offset) = 5
 kind_number NoSuchRecord = 6
-kind_number (Refused number) = 7
+kind_number (Refused refusal) = 7
 
 -- where a written record's table stands in the result; 0 of any other
 abbrev pub written_at : FateKind → ℕ

@@ -5,7 +5,7 @@ ghost use Rattle.std.specs.Prelude.{◌≡◌};
 ghost use Rattle.host_told.specs.Told.{told, told_fate, told_head};
 ghost use Rattle.heads.specs.Heads.{old_head, new_head, head_number_of};
 
-use cmap_promise::{Answer, Fate, FateKind};
+use cmap_promise::{Answer, Fate, FateKind, Unwritten, Written};
 use heads::HeadRefusal;
 
 // Number 0 is an acceptance; length and records are those written. 10 comes with the length needed.
@@ -43,19 +43,19 @@ impl From<Answer> for SubsetAnswer {
 
     fn from(answer: Answer) -> Self {
         match answer {
-            Answer::Written { bytes, records } => SubsetAnswer {
+            Ok(Written { bytes, records }) => SubsetAnswer {
                 number: 0,
                 length: bytes,
                 records,
             },
-            Answer::Refused(number) => SubsetAnswer {
-                number,
+            Err(Unwritten::Refused(refusal)) => SubsetAnswer {
+                number: refusal.into(),
                 length: 0,
                 records: 0,
             },
-            Answer::NoRoom(bytes) => SubsetAnswer {
+            Err(Unwritten::NoRoom(needed)) => SubsetAnswer {
                 number: 10,
-                length: bytes,
+                length: needed,
                 records: 0,
             },
         }
@@ -75,7 +75,7 @@ impl From<Fate> for FateAnswer {
             FateKind::Covered => (4, 0, 0),
             FateKind::WrittenAt(offset) => (5, 0, offset),
             FateKind::NoSuchRecord => (6, 0, 0),
-            FateKind::Refused(number) => (7, number, 0),
+            FateKind::Refused(refusal) => (7, refusal.into(), 0),
         };
         FateAnswer {
             number,

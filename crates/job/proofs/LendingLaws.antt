@@ -10,8 +10,7 @@ use Rattle.job_input.specs.declared.Places.{Places}
 use Rattle.job_input.specs.Job.{job_at}
 use Rattle.job_lists.specs.declared.Lists.{Lists}
 use Rattle.job_lists.specs.Lent.{AtFront, ListsHeld}
-use Rattle.cmap_promise.specs.declared.Answer.{Answer}
-use Rattle.cmap_promise.specs.Cmap.{answer_of, output_of}
+use Rattle.cmap_promise.specs.Cmap.{Answer, answer_of, output_of}
 
 front_length : (n : ℕ) (buffer list : List ℕ) → AtFront n buffer list → n ≡ length (take n buffer)
 front_length n buffer list f = take_counts n buffer f.room

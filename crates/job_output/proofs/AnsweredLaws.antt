@@ -3,42 +3,61 @@ use Prim.Native.Nat.{ℕ, ◌≤◌}
 use mathlib.Core.Path.{◌≡◌, refl}
 use mathlib.Core.List.{List}
 use lib.ListN.{length, take}
-use Rattle.std.proofs.Common.{Option, Some, None, Result}
+use Rattle.std.proofs.Common.{Option, Some, None, Result, Ok, Err}
 use Rattle.plan_listing.specs.Job.{Job}
 use Rattle.job_input.specs.declared.Places.{Places}
 use Rattle.job_input.specs.Job.{located, job_at, parse}
 use Rattle.job_output.specs.Output.{written_by, Parts}
 use Rattle.job_output.proofs.OutputLaws.{written_acceptance, written_refusal}
-use Rattle.cmap_promise.specs.declared.Answer.{Answer}
-use Rattle.cmap_promise.specs.declared.Answer.TheVariants.{Written, Refused, NoRoom}
-use Rattle.cmap_promise.specs.Cmap.{result, answer_of, output_of}
+use Rattle.result.specs.declared.Refusal.{Refusal}
+use Rattle.result.specs.Refusal.{refusal_number}
+use Rattle.cmap_promise.specs.declared.Written.{Written}
+use Rattle.cmap_promise.specs.declared.Unwritten.{Unwritten}
+use Rattle.cmap_promise.specs.declared.Unwritten.TheVariants.{Refused, NoRoom}
+use Rattle.cmap_promise.specs.Cmap.{Answer, result, answer_of, output_of}
 use Rattle.cmap_promise.proofs.PromiseLaws.{written_fits, written_front}
 use Rattle.job_output.specs.Answered.{room, reply_bytes, answered, reply_of, reply_to, left_by}
+
+-- ---- which reply an answer gets
+
+module _ (a : Answer) where
+  pub reply_written : (w : Written) → a ≡ Ok w → Ok w.bytes ≡ reply_of a
+  unfolding reply_of
+  reply_written w e = rw e
+
+  module _ (why : Unwritten) (e : a ≡ Err why) where
+    pub reply_refused : (refusal : Refusal) (number : ℕ) → why ≡ Refused refusal → number ≡ refusal_number refusal → Err number ≡ reply_of a
+    unfolding reply_of
+    reply_refused refusal number w n = rw (e, w, n)
+
+    pub reply_no_room : (needed : ℕ) → why ≡ NoRoom needed → Err 10 ≡ reply_of a
+    unfolding reply_of
+    reply_no_room needed w = rw (e, w)
 
 -- ---- what a reply writes
 
 -- what the call says of an answer that it wrote: the bytes stand in the first places
 record Stands (a : Answer) (buffer bytes : List ℕ) : Type 0 where
-  fits : (n k : ℕ) → a ≡ Written n k → n ≤ length buffer
-  front : (n k : ℕ) → a ≡ Written n k → take n buffer ≡ bytes
+  fits : (w : Written) → a ≡ Ok w → w.bytes ≤ length buffer
+  front : (w : Written) → a ≡ Ok w → take w.bytes buffer ≡ bytes
 
 written_reply : (a : Answer) (buffer bytes : List ℕ) → Stands a buffer bytes → written_by (reply_of a) buffer ≡ reply_bytes a bytes
 unfolding reply_of reply_bytes
-written_reply (Written n k) buffer bytes s = rw (← s.front n k refl) (written_acceptance n buffer (s.fits n k refl))
-written_reply (Refused number) buffer bytes s = written_refusal number buffer
-written_reply (NoRoom n) buffer bytes s = written_refusal 10 buffer
+written_reply (Ok w) buffer bytes s = rw (← s.front w refl) (written_acceptance w.bytes buffer (s.fits w refl))
+written_reply (Err (Refused refusal)) buffer bytes s = written_refusal (refusal_number refusal) buffer
+written_reply (Err (NoRoom needed)) buffer bytes s = written_refusal 10 buffer
 
 parts_reply : (a : Answer) (buffer bytes : List ℕ) → Stands a buffer bytes → Parts (reply_of a) buffer
 unfolding reply_of
-parts_reply (Written n k) buffer bytes s = s.fits n k refl
-parts_reply (Refused number) buffer bytes s = tt
-parts_reply (NoRoom n) buffer bytes s = tt
+parts_reply (Ok w) buffer bytes s = s.fits w refl
+parts_reply (Err (Refused refusal)) buffer bytes s = tt
+parts_reply (Err (NoRoom needed)) buffer bytes s = tt
 
 module _ (buffer : List ℕ) where
   pub tells_job : length buffer ≡ room → (j : Job) → (written_by (reply_to (Some j)) (left_by (Some j) buffer) ≡ answered (Some j)) × Parts (reply_to (Some j)) (left_by (Some j) buffer)
   unfolding reply_to left_by answered
   tells_job l j =
-      let s : Stands (answer_of j room) (output_of j buffer) (result j) = record { fits = λ n k e. written_fits j buffer n k (rw l e); front = λ n k e. written_front j buffer n k (rw l e) } in
+      let s : Stands (answer_of j room) (output_of j buffer) (result j) = record { fits = λ w e. written_fits j buffer w (rw l e); front = λ w e. written_front j buffer w (rw l e) } in
       (written_reply (answer_of j room) (output_of j buffer) (result j) s, parts_reply (answer_of j room) (output_of j buffer) (result j) s)
 
   pub tells_damaged : (written_by (reply_to None) (left_by None buffer) ≡ answered None) × Parts (reply_to None) (left_by None buffer)

@@ -2,9 +2,9 @@
 use Rattle.std.specs.Prelude.{ℕ, List, Option, Some, None, Result, Ok, Err}
 use Rattle.plan_listing.specs.Job.{Job}
 use Rattle.job_output.specs.Output.{accepted, refused}
-use Rattle.cmap_promise.specs.declared.Answer.{Answer}
-use Rattle.cmap_promise.specs.declared.Answer.TheVariants.{Written, Refused, NoRoom}
-use Rattle.cmap_promise.specs.Cmap.{result, answer_of, output_of}
+use Rattle.result.specs.Refusal.{refusal_number}
+use Rattle.cmap_promise.specs.declared.Unwritten.TheVariants.{Refused, NoRoom}
+use Rattle.cmap_promise.specs.Cmap.{Answer, result, answer_of, output_of}
 
 -- the work buffer's bytes
 abbrev pub room : ℕ
@@ -12,9 +12,9 @@ room = 32768
 
 -- OK and the result, or NO and the number; 10 is told as the number alone
 unfoldable pub reply_bytes : Answer → List ℕ → List ℕ
-reply_bytes (Written n k) bytes = accepted bytes
-reply_bytes (Refused number) bytes = refused number
-reply_bytes (NoRoom n) bytes = refused 10
+reply_bytes (Ok written) bytes = accepted bytes
+reply_bytes (Err (Refused refusal)) bytes = refused (refusal_number refusal)
+reply_bytes (Err (NoRoom needed)) bytes = refused 10
 
 -- of a job, or of damaged bytes: 12 comes before all other numbers
 unfoldable pub answered : Option Job → List ℕ
@@ -24,9 +24,9 @@ answered None = refused 12
 -- ---- the same in two parts: the reply, and what is left in the work buffer
 
 unfoldable pub reply_of : Answer → Result ℕ ℕ
-reply_of (Written n k) = Ok n
-reply_of (Refused number) = Err number
-reply_of (NoRoom n) = Err 10
+reply_of (Ok written) = Ok written.bytes
+reply_of (Err (Refused refusal)) = Err (refusal_number refusal)
+reply_of (Err (NoRoom needed)) = Err 10
 
 unfoldable pub reply_to : Option Job → Result ℕ ℕ
 reply_to (Some j) = reply_of (answer_of j room)

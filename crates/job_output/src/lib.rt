@@ -5,10 +5,10 @@ ghost use Rattle.std.specs.Prelude.{◌≡◌, None};
 ghost use Rattle.job_output.specs.Output.{head_of, payload_of, Parts};
 ghost use Rattle.job_output.specs.Answered.{reply_of, reply_to};
 
-use cmap_promise::Answer;
+use cmap_promise::{Answer, Unwritten};
 use std::slice;
 
-// How many bytes of the work buffer are the result, or the number of a refusal.
+// How many bytes of the work buffer are the result, or the number of a refusal: a number, since `payload` lends it as a slice.
 pub type Reply = Result<usize, u8>;
 
 // A reply's mark, and its payload's length in four bytes.
@@ -39,9 +39,9 @@ pub fn reply_of(answer: Answer) -> Reply
     ensures { result ≡ reply_of answer }
 {
     match answer {
-        Answer::Written { bytes, records: _ } => Ok(bytes),
-        Answer::Refused(number) => Err(number),
-        Answer::NoRoom(_) => Err(10),
+        Ok(written) => Ok(written.bytes),
+        Err(Unwritten::Refused(refusal)) => Err(refusal.into()),
+        Err(Unwritten::NoRoom(_)) => Err(10),
     }
 }
 

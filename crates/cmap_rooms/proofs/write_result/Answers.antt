@@ -5,14 +5,14 @@ use Rattle.cmap_rooms.proofs.write_result.Goals as goal
 
 pub serialize_cmap-requires : goal.serialize_cmap-requires
 serialize_cmap-requires c = let r = c.requires in
-    let e = c.in-Written.is in
+    let e = c.in-Ok.is in
     record {
-      writes_plan = writes_plan _ _ _ _ _ _ r.writes (accepted_counts _ _ r.writes.planned c.args.out.now _ r.answered _ _ e);
-      room = accepted_fits _ _ r.writes.planned c.args.out.now _ r.answered _ _ e;
+      writes_plan = writes_plan _ _ _ _ _ _ r.writes (accepted_counts _ _ r.writes.planned c.args.out.now _ r.answered _ e);
+      room = accepted_fits _ _ r.writes.planned c.args.out.now _ r.answered _ e;
     }
 
-pub returns-in-Written : goal.returns-in-Written
-returns-in-Written c = search (writing, outputs)
+pub returns-in-Ok : goal.returns-in-Ok
+returns-in-Ok c = search (writing, outputs)
 
 pub returns-in_default : goal.returns-in_default
-returns-in_default c = let r = c.requires in unwritten_keeps _ _ r.writes.planned _ _ r.answered c.in_default.not-Written
+returns-in_default c = let r = c.requires in unwritten_keeps _ _ r.writes.planned _ _ r.answered c.in_default.not-Ok

@@ -1,15 +1,20 @@
 -- Each answer has its own reply.
-use Rattle.job_output.specs.Answered.{reply_of}
+use mathlib.Core.Path.{◌≡◌}
+use Rattle.cmap_promise.specs.declared.Unwritten.TheVariants.{Refused, NoRoom}
+use Rattle.job_output.proofs.AnsweredLaws.{reply_written, reply_refused, reply_no_room}
 use Rattle.job_output.proofs.reply_of.Goals as goal
 
-pub returns-in-Written : goal.returns-in-Written
-unfolding reply_of
-returns-in-Written c = rw c.in-Written.is
+pub returns-in-Ok : goal.returns-in-Ok
+returns-in-Ok c = search reply_written
 
-pub returns-in-Refused : goal.returns-in-Refused
-unfolding reply_of
-returns-in-Refused c = rw c.in-Refused.is
+pub returns-in-Err-Refused : goal.returns-in-Err-Refused
+returns-in-Err-Refused c =
+    let k = c.in-Err-Refused in
+    let why : k.field-0 ≡ Refused k.refusal = rw k.is at k.field-0-is in
+    search reply_refused
 
-pub returns-in-NoRoom : goal.returns-in-NoRoom
-unfolding reply_of
-returns-in-NoRoom c = rw c.in-NoRoom.is
+pub returns-in-Err-NoRoom : goal.returns-in-Err-NoRoom
+returns-in-Err-NoRoom c =
+    let k = c.in-Err-NoRoom in
+    let why : k.field-0 ≡ NoRoom k.field-0-0 = rw k.is at k.field-0-is in
+    search reply_no_room
