@@ -99,6 +99,7 @@ fn head_number_of(answer: Result<u32, HeadRefusal>) -> u8
     }
 }
 
+// A head's answer in numbers, which a host in C reads.
 fn tell_head(answer: Result<u32, HeadRefusal>) -> HeadAnswer
     ensures { result ≡ told_head answer }
 {

@@ -6,12 +6,12 @@ use mathlib.Core.List.{List, [], ◌∷◌, ◌++◌, append-nil}
 use mathlib.Core.Bool.{Bool, true, false}
 use mathlib.Core.Logic.{◌⊎◌, inl, inr}
 use native.Mathlib.Omega.{arith}
-use lib.Dec.{ltb, eqb}
+use lib.Dec.{ltb}
 use lib.ListN.{length}
-use borrow.Author.Tests.{ltb-true, eqb-true, eqb-false}
+use borrow.Author.Tests.{ltb-true}
 use Rattle.laws.specs.Choice.{pick, either}
 use Rattle.laws.specs.Select.{any_of}
-use Rattle.laws.proofs.ChoiceLaws.{both_left, both_right, by_pick, by_leb}
+use Rattle.laws.proofs.ChoiceLaws.{both_left, both_right, by_leb}
 use Rattle.laws.proofs.EitherLaws.{neither_left, neither_right}
 use Rattle.source_header.specs.Header.{refused5}
 use Rattle.source_records.specs.Records.{refused6, refused7}

@@ -1,4 +1,4 @@
-use Rattle.cmap_concluding.proofs.FateLaws.{finding, concluding, fate_missing, fate_there}
+use Rattle.cmap_concluding.proofs.FateLaws.{finding, concluding}
 use Rattle.cmap_concluding.proofs.fate_by.Goals as goal
 
 pub late_refusal-requires : goal.late_refusal-requires
