@@ -22,7 +22,7 @@ An edit makes one place of a crate wrong, in its code or in a definition, and th
 
 SAID = re.compile(r"^rt: must-fail (\w+/\w+)\.edit: (.*)", re.M)
 ERROR = re.compile(r"(?:\./)?(?:proofs|specs)/(\S+?)\.antt:\d+:\d+: error: `([^`]+)`")
-NOTE = re.compile(r"note: (src/\S+?):(\d+):\d+: it is not proved .*?\(`([^`]+)`\)")
+NOTE = re.compile(r"note: (src/\S+?):(\d+):\d+: (?:it is not proved|`search` found no proof) .*?\(?`([^`]+)`\)")
 
 
 def told(edit):
