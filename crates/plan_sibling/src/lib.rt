@@ -48,8 +48,11 @@ fn is_sibling(s: &[u8], k: usize, i: usize) -> bool
     requires placed_2 { Placed s.now i }
     ensures { result ≡ is_sibling s.now k i }
 {
-    let wanted = language_of(source_records::leads_to(s, k));
-    sibling_pair(s, k, i) && has_language(wanted, source_records::leads_to(s, i))
+    sibling_pair(s, k, i)
+        && has_language(
+            language_of(source_records::leads_to(s, k)),
+            source_records::leads_to(s, i),
+        )
 }
 
 // The first such record of the first n; n where there is none.
