@@ -73,8 +73,8 @@ fn serves(s: &[u8], notes: &Notes, k: usize, r: usize) -> bool
     requires r_lt_k { (r < k) × (k ≤ records_max) }
     ensures { result ≡ serves s.now (outcomes_in k notes.now) k r }
 {
-    let format = source::format_of(source_records::leads_to(s, k));
-    is_made(notes.outcomes[r]) && source_records::leads_to_format(s, r, format)
+    is_made(notes.outcomes[r])
+        && source_records::leads_to_format(s, r, source::format_of(source_records::leads_to(s, k)))
 }
 
 // The first earlier record whose table serves record k; k where there is none.
