@@ -2,9 +2,12 @@
 use Prim.Native.Nat.{ℕ, ◌+◌, ◌≤◌}
 use mathlib.Core.Path.{◌≡◌, sym, ap, ◌∙◌}
 use mathlib.Core.List.{List}
+use native.Mathlib.Omega.{arith}
 use lib.ListN.{length}
 use lib.Seq.{sets}
 use Rattle.laws.specs.Lists.{Pair, pairs}
+use Rattle.laws.proofs.LengthLaws.{length-map}
+use Rattle.number.specs.Limits.{pairs_max}
 use Rattle.format12.proofs.TableLaws.{length_table}
 use Rattle.format12.specs.declared.Size12.{Size12}
 use Rattle.format12.specs.Format12.{format12, groups, size_of12, Columns, GroupsRoom}
@@ -12,11 +15,17 @@ use Rattle.plan_listing.specs.Job.{Job}
 use Rattle.plan_listing.specs.Listing.{code_column, glyph_column}
 use Rattle.plan.specs.Fresh.{listed_of}
 use Rattle.plan.specs.Making.{PairsRoom}
-use Rattle.plan.proofs.MakingLaws.{columns_pairs, columns_even, columns_few}
+use Rattle.plan.proofs.MakingLaws.{columns_pairs, columns_even, length-listed}
 
-pub columns12 : (j : Job) (k : ℕ) (fs tocs togs : List ℕ) → PairsRoom j k fs tocs togs
-    → (ds hs : List ℕ) → (ds ≡ code_column (listed_of j k)) × (hs ≡ glyph_column (listed_of j k)) → Columns ds hs
-columns12 j k fs tocs togs p ds hs e = record { even = sym (columns_even (listed_of j k) ds hs e); few = columns_few j k fs tocs togs p ds e.0 }
+module _ (j : Job) (k : ℕ) (ds hs : List ℕ) (e : (ds ≡ code_column (listed_of j k)) × (hs ≡ glyph_column (listed_of j k))) where
+  pub columns_of : length j.codes ≤ pairs_max → Columns ds hs
+  columns_of few =
+      let l = length-map (λ (q : Pair). q.0) (listed_of j k) in
+      let u = length-listed j k in
+      record { even = sym (columns_even (listed_of j k) ds hs e); few = rw e.0 (omega (arith, l, u, few)) }
+
+  pub columns12 : (fs tocs togs : List ℕ) → PairsRoom j k fs tocs togs → Columns ds hs
+  columns12 fs tocs togs p = columns_of p.few
 
 module _ (ps : List Pair) (ds hs : List ℕ) (e : (ds ≡ code_column ps) × (hs ≡ glyph_column ps)) where
   pub sized12 : (r : Size12) → r ≡ size_of12 (pairs ds hs) → r ≡ size_of12 ps

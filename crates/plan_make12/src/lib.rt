@@ -3,7 +3,9 @@
 
 ghost use Rattle.std.specs.Prelude.{◌≡◌, ◌+◌, ◌≤◌, length};
 ghost use Rattle.std.proofs.lemmas.List.Edits.{sets};
+ghost use Rattle.number.specs.Limits.{pairs_max};
 ghost use Rattle.plan_listing.specs.Lent.{lent_job};
+ghost use Rattle.plan_listing.specs.Listing.{code_column, glyph_column};
 ghost use Rattle.format12.specs.Format12.{format12, size_of12};
 ghost use Rattle.plan.specs.Fresh.{listed_of};
 ghost use Rattle.plan.specs.Making.{PairsRoom, Fronts};
@@ -31,6 +33,25 @@ pub fn size12(
     }
 }
 
+// Measures and writes the format 12 subtable of the listed pairs of record k, lent as two columns.
+fn write12_listed(
+    out: &mut [u8],
+    at: usize,
+    language: u32,
+    job: &Job,
+    k: usize,
+    codes: &[u32],
+    glyphs: &[u16],
+)
+    requires few { length job.now.codes.now ≤ pairs_max }
+    requires columns { let ps = listed_of (lent_job job.now) k in (codes.now ≡ code_column ps) × (glyphs.now ≡ glyph_column ps) }
+    requires room { at + length (format12 language (listed_of (lent_job job.now) k)) ≤ length out.old }
+    ensures { out.new ≡ sets out.old at (format12 language (listed_of (lent_job job.now) k)) }
+{
+    let size = format12::format12_size(codes, glyphs);
+    format12_writer::write_format12(out, at, language, codes, glyphs, size.groups);
+}
+
 // Writes the format 12 subtable that record k makes. Where its plan notes a front, no pairs are listed.
 pub fn write12(
     out: &mut [u8],
@@ -49,6 +70,5 @@ pub fn write12(
     ensures { out.new ≡ sets out.old at (format12 language (listed_of (lent_job job.now) k)) }
 {
     let listed = plan_collecting::lend_noted_pairs(job, k, front, flags, tocodes, toglyphs);
-    let size = format12::format12_size(listed.codes, listed.glyphs);
-    format12_writer::write_format12(out, at, language, listed.codes, listed.glyphs, size.groups);
+    write12_listed(out, at, language, job, k, listed.codes, listed.glyphs);
 }
