@@ -156,8 +156,9 @@ pub fn lend_noted_pairs<'a>(
         (result.codes.now ≡ code_column ps) × (result.glyphs.now ≡ glyph_column ps) }
 {
     if 0 < front {
-        return first_pairs(job, front);
+        first_pairs(job, front)
+    } else {
+        collect_record(job.source, k, job.map.len() as u32, job.codes, flags);
+        copied_pairs(job, flags, tocodes, toglyphs)
     }
-    collect_record(job.source, k, job.map.len() as u32, job.codes, flags);
-    copied_pairs(job, flags, tocodes, toglyphs)
 }
