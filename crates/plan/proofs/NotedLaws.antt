@@ -1,20 +1,20 @@
 -- The outcomes that are noted.
 use Prim.Native.Nat.{ℕ, ◌+◌, ◌<◌, ◌≤◌}
-use mathlib.Core.Path.{◌≡◌, ap}
+use mathlib.Core.Path.{◌≡◌, sym, ap, ◌∙◌}
 use mathlib.Core.List.{List, [], ◌∷◌, ◌++◌}
 use native.Mathlib.Numerals.{add-one}
-use lib.ListN.{length, get_or, set, take}
-use lib.Seq.{length-take-le, take-suc-set, get_or-take, get_or-set_same}
+use native.Mathlib.Omega.{arith}
+use lib.ListN.{length, get_or, set, length-set, take}
+use lib.Seq.{length-take-le, take-suc, take-set-le, get_or-take, get_or-set_same}
 use Rattle.plan.specs.declared.Why.TheVariants.{NotRetained}
 use Rattle.plan.specs.declared.Notes.{Notes}
 use Rattle.plan.specs.declared.Outcome.{Outcome}
 use Rattle.plan.specs.declared.Outcome.TheVariants.{LeftOut}
 use Rattle.plan.specs.Outcomes.{at}
-use Rattle.plan.specs.Notes.{outcomes_in}
+use Rattle.plan.specs.Notes.{outcomes_in, noted}
 
--- what is noted of a record tells its outcome
-pub told_as_noted : (os : List Outcome) (k : ℕ) (o : Outcome) → k < length os → at (set os k o) k ≡ o
-told_as_noted os k o h = get_or-set_same os k o (LeftOut NotRetained) h
+pub told_in_place : (os : List Outcome) (k : ℕ) (o : Outcome) → k < length os → at (set os k o) k ≡ o
+told_in_place os k o h = get_or-set_same os k o (LeftOut NotRetained) h
 
 pub at_noted : (m k : ℕ) (notes : Notes) → k < m → at (outcomes_in m notes) k ≡ at notes.outcomes k
 unfolding outcomes_in
@@ -24,11 +24,25 @@ pub length_noted : (m : ℕ) (notes : Notes) → m ≤ length notes.outcomes →
 unfolding outcomes_in
 length_noted m notes h = length-take-le m notes.outcomes h
 
--- an outcome more
-pub noted_on : (before after : Notes) (k : ℕ) (o : Outcome) → k < length before.outcomes → after.outcomes ≡ set before.outcomes k o
-    → outcomes_in (k + 1) after ≡ outcomes_in k before ++ (o ∷ [])
+-- what is told of the last of k + 1 records stands behind what is told of the first k
+last_told : (k : ℕ) (notes : Notes) → k < length notes.outcomes → outcomes_in (k + 1) notes ≡ outcomes_in k notes ++ (at (outcomes_in (k + 1) notes) k ∷ [])
 unfolding outcomes_in
-noted_on before after k o h q = rw (add-one k, q, take-suc-set before.outcomes k o h)
+last_told k notes h =
+    ap (λ (n : ℕ). take n notes.outcomes) (add-one k)
+    ∙ take-suc notes.outcomes k (LeftOut NotRetained) h
+    ∙ ap (λ (x : Outcome). take k notes.outcomes ++ (x ∷ [])) (sym (at_noted (k + 1) k notes (omega arith)))
+
+-- what is noted of a record tells its outcome
+pub told_as_noted : (notes : Notes) (k : ℕ) (o : Outcome) → k < length notes.outcomes → at (outcomes_in (k + 1) (noted notes k o)) k ≡ o
+told_as_noted notes k o h = at_noted (k + 1) k (noted notes k o) (omega arith) ∙ told_in_place notes.outcomes k o h
+
+-- an outcome more
+pub noted_on : (notes : Notes) (k : ℕ) (o : Outcome) → k < length notes.outcomes → outcomes_in (k + 1) (noted notes k o) ≡ outcomes_in k notes ++ (o ∷ [])
+unfolding outcomes_in
+noted_on notes k o h =
+    last_told k (noted notes k o) (omega (arith, h, length-set notes.outcomes k o))
+    ∙ ap (λ (x : Outcome). outcomes_in k (noted notes k o) ++ (x ∷ [])) (told_as_noted notes k o h)
+    ∙ ap (λ (os : List Outcome). os ++ (o ∷ [])) (take-set-le k notes.outcomes k o (omega arith))
 
 -- they depend on the row alone
 pub row_tells : (before after : Notes) (k : ℕ) → after.outcomes ≡ before.outcomes → outcomes_in k after ≡ outcomes_in k before

@@ -1,5 +1,5 @@
 -- Inner: what the walk notes for the one who writes the tables; no promise names it.
-use Rattle.std.specs.Prelude.{ℕ, ◌+◌, ◌*◌, ◌<◌, ◌≤◌, ◌≡◌, List, true, ◌⊎◌, length, get_or, take}
+use Rattle.std.specs.Prelude.{ℕ, ◌+◌, ◌*◌, ◌<◌, ◌≤◌, ◌≡◌, List, true, ◌⊎◌, length, get_or, set, take}
 use Rattle.number.specs.BigEndian.{be}
 use Rattle.number.specs.Limits.{records_max}
 use Rattle.source.specs.declared.Kind.TheVariants.{Format14}
@@ -18,6 +18,10 @@ use Rattle.plan.specs.Fresh.{job14_of}
 -- what became of the first m records
 unfoldable pub outcomes_in : ℕ → Notes → List Outcome
 outcomes_in m notes = take m notes.outcomes
+
+-- the notes with what became of record k in its place, all else as it was
+abbrev pub noted : Notes → ℕ → Outcome → Notes
+noted notes k o = record { outcomes = set notes.outcomes k o; fronts = notes.fronts; ends = notes.ends }
 
 -- ---- what they say
 

@@ -2,8 +2,9 @@
 // and what a plan notes.
 #![tactic(auto)]
 
-ghost use Rattle.std.specs.Prelude.{◌≡◌, ◌≤◌, length, replicate};
+ghost use Rattle.std.specs.Prelude.{◌≡◌, ◌<◌, ◌≤◌, length, replicate};
 ghost use Rattle.number.specs.Limits.{records_max};
+ghost use Rattle.plan.specs.Notes.{noted};
 
 use number::limits::{RECORDS_MAX, TABLES_MAX};
 
@@ -46,5 +47,13 @@ impl Notes {
             fronts: [0; RECORDS_MAX],
             ends: [0; TABLES_MAX],
         }
+    }
+
+    // Notes what became of record k.
+    pub fn note(&mut self, k: usize, outcome: Outcome)
+        requires { k < records_max }
+        ensures { self.new ≡ noted self.old k outcome }
+    {
+        self.outcomes[k] = outcome;
     }
 }

@@ -252,6 +252,7 @@ pub fn plan(
     ensures endings { let m = record_count job.now.source.now in Endings (lent_job job.now) (outcomes_in m notes.new) m notes.new }
 {
     for k in 0..source_header::record_count(job.source) {
-        notes.outcomes[k] = outcome_of(job, flags, others, tocodes, toglyphs, notes, k);
+        let outcome = outcome_of(job, flags, others, tocodes, toglyphs, notes, k);
+        notes.note(k, outcome);
     }
 }

@@ -7,8 +7,8 @@ use Rattle.plan_walk.proofs.plan.Goals as goal
 pub loop-k-init : goal.loop-k-init
 loop-k-init c = (search planning, search rules)
 
-pub outcome_of-requires : goal.outcome_of-requires
-outcome_of-requires c = record {
+pub outcome_of-outcome-requires : goal.outcome_of-outcome-requires
+outcome_of-outcome-requires c = record {
   earlier = search planning;
   ready = search planning;
   notebook = search planning;
@@ -17,8 +17,8 @@ outcome_of-requires c = record {
 
 pub loop-k-preserved : goal.loop-k-preserved
 loop-k-preserved c = let l = c.loop-k.invariant.0 in
-    let e = c.outcome_of.ensures in
-    (planning_on _ _ _ _ _ _ _ _ l _ _ _ _ _ _ _ (omega arith) e.value.0 e.value.1 (search rules) (search rules) (search rules) (search rules) e.leaves e.stays (search rules) (search rules) (search rules), search rules)
+    let e = c.outcome_of-outcome.ensures in
+    (planning_on _ _ _ _ _ _ _ _ l _ _ _ _ _ _ _ (omega arith) e.value.0 e.value.1 (search rules) (search rules) (search rules) (search rules) e.leaves e.stays c.note.ensures, search rules)
 
 pub returns-clause-planned : goal.returns-clause-planned
 returns-clause-planned c = let l = c.loop-k.invariant.0 in
