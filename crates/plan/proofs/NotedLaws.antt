@@ -16,9 +16,12 @@ use Rattle.plan.specs.Notes.{outcomes_in, noted}
 pub told_in_place : (os : List Outcome) (k : ℕ) (o : Outcome) → k < length os → at (set os k o) k ≡ o
 told_in_place os k o h = get_or-set_same os k o (LeftOut NotRetained) h
 
+pub at_taken : (m k : ℕ) (os : List Outcome) → k < m → at (take m os) k ≡ at os k
+at_taken m k os h = get_or-take m os k (LeftOut NotRetained) h
+
 pub at_noted : (m k : ℕ) (notes : Notes) → k < m → at (outcomes_in m notes) k ≡ at notes.outcomes k
 unfolding outcomes_in
-at_noted m k notes h = get_or-take m notes.outcomes k (LeftOut NotRetained) h
+at_noted m k notes h = at_taken m k notes.outcomes h
 
 pub length_noted : (m : ℕ) (notes : Notes) → m ≤ length notes.outcomes → length (outcomes_in m notes) ≡ m
 unfolding outcomes_in

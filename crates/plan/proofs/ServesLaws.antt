@@ -4,7 +4,7 @@ use mathlib.Core.Path.{◌≡◌}
 use mathlib.Core.List.{List}
 use mathlib.Core.Bool.{Bool, true, false}
 use native.Mathlib.Omega.{arith}
-use lib.ListN.{get_or}
+use lib.ListN.{get_or, take}
 use Rattle.laws.proofs.SearchLaws.{Finding, looking_start, looks}
 use Rattle.source.specs.declared.Kind.{Kind}
 use Rattle.source.specs.Kind.{format_of}
@@ -12,20 +12,18 @@ use Rattle.source_records.specs.Records.{leads_to, leads_to_format, Placed}
 use Rattle.plan.specs.declared.Outcome.{Outcome}
 use Rattle.plan.specs.Outcomes.{at, is_made, serves, server}
 use Rattle.plan.specs.Sizes.{BothPlaced}
-use Rattle.plan.specs.declared.Notes.{Notes}
-use Rattle.plan.specs.Notes.{outcomes_in}
-use Rattle.plan.proofs.NotedLaws.{at_noted}
+use Rattle.plan.proofs.NotedLaws.{at_taken}
 
-module _ (xs : List ℕ) (notes : Notes) (k r : ℕ) (o : Outcome) (made : Bool) (told : o ≡ at notes.outcomes r) (before : r < k) (q : made ≡ is_made o) where
-  asked : made ≡ is_made (at (outcomes_in k notes) r)
-  asked = rw (at_noted k r notes before, ← told) q
+module _ (xs : List ℕ) (os : List Outcome) (k r : ℕ) (o : Outcome) (made : Bool) (told : o ≡ at os r) (before : r < k) (q : made ≡ is_made o) where
+  asked : made ≡ is_made (at (take k os) r)
+  asked = rw (at_taken k r os before, ← told) q
 
-  pub serves_no : made ≡ false → made ≡ serves xs (outcomes_in k notes) k r
+  pub serves_no : made ≡ false → made ≡ serves xs (take k os) k r
   unfolding serves
   serves_no e = rw (← asked, e)
 
   pub serves_then : (kind : Kind) (f : ℕ) (t : Bool) → made ≡ true → kind ≡ leads_to xs k → f ≡ format_of kind → t ≡ leads_to_format f xs r
-      → t ≡ serves xs (outcomes_in k notes) k r
+      → t ≡ serves xs (take k os) k r
   unfolding serves
   serves_then kind f t e a b h = rw (← asked, e, ← a, ← b) h
 

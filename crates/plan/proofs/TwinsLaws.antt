@@ -4,16 +4,14 @@ use mathlib.Core.Path.{◌≡◌}
 use mathlib.Core.List.{List}
 use mathlib.Core.Bool.{Bool, true, false}
 use lib.Dec.{eqb}
-use lib.ListN.{get_or}
+use lib.ListN.{get_or, take}
 use Rattle.laws.proofs.SearchLaws.{Finding, looking_start, looks}
 use Rattle.source_header.specs.declared.EncodingRecord.{EncodingRecord}
 use Rattle.source_header.specs.Header.{platform_of, encoding_of, offset_of, record_of}
 use Rattle.source_records.specs.Records.{is_pair}
 use Rattle.plan.specs.Outcomes.{at}
 use Rattle.plan.specs.declared.Outcome.{Outcome}
-use Rattle.plan.specs.declared.Notes.{Notes}
-use Rattle.plan.specs.Notes.{outcomes_in}
-use Rattle.plan.proofs.NotedLaws.{at_noted}
+use Rattle.plan.proofs.NotedLaws.{at_taken}
 use Rattle.plan.specs.Twins.{came_to_nothing, is_twin, twin, is_spent, spent}
 use Rattle.plan.proofs.ServesLaws.{two}
 
@@ -29,15 +27,15 @@ module _ (xs : List ℕ) (k r : ℕ) (e : EncodingRecord) (t : Bool) (q : e ≡ 
   unfolding is_twin
   twin_then at f h = rw (← asked, f, h, q)
 
-module _ (xs : List ℕ) (notes : Notes) (k r : ℕ) (o : Outcome) (t : Bool) (told : o ≡ at notes.outcomes r) (before : r < k) (q : t ≡ came_to_nothing o) where
-  nothing : t ≡ came_to_nothing (at (outcomes_in k notes) r)
-  nothing = rw (at_noted k r notes before, ← told) q
+module _ (xs : List ℕ) (os : List Outcome) (k r : ℕ) (o : Outcome) (t : Bool) (told : o ≡ at os r) (before : r < k) (q : t ≡ came_to_nothing o) where
+  nothing : t ≡ came_to_nothing (at (take k os) r)
+  nothing = rw (at_taken k r os before, ← told) q
 
-  pub spent_no : t ≡ false → t ≡ is_spent xs (outcomes_in k notes) k r
+  pub spent_no : t ≡ false → t ≡ is_spent xs (take k os) k r
   unfolding is_spent
   spent_no e = rw (← nothing, e)
 
-  pub spent_then : (a b : ℕ) → t ≡ true → a ≡ offset_of xs r → b ≡ offset_of xs k → eqb a b ≡ is_spent xs (outcomes_in k notes) k r
+  pub spent_then : (a b : ℕ) → t ≡ true → a ≡ offset_of xs r → b ≡ offset_of xs k → eqb a b ≡ is_spent xs (take k os) k r
   unfolding is_spent
   spent_then a b e f g = rw (← nothing, e, f, g)
 

@@ -1,15 +1,14 @@
 // What became of records: tests of an outcome, and which earlier record serves or tells of one.
 #![tactic(auto)]
 
-ghost use Rattle.std.specs.Prelude.{◌≡◌, ◌<◌, ◌≤◌};
+ghost use Rattle.std.specs.Prelude.{◌≡◌, ◌<◌, ◌≤◌, length, take};
 ghost use Rattle.source_records.specs.Records.{Placed};
 ghost use Rattle.plan.specs.Outcomes.{is_made, is_bad, is_written, maker_of, serves, server};
 ghost use Rattle.plan.specs.Sizes.{made_size, BothPlaced};
 ghost use Rattle.plan.specs.Twins.{is_covered, came_to_nothing, is_twin, twin, is_spent, spent};
-ghost use Rattle.plan.specs.Notes.{outcomes_in};
 ghost use Rattle.number.specs.Limits.{records_max};
 
-use plan::{Notes, Outcome, Why};
+use plan::{Outcome, Why};
 
 // ---- what an outcome says
 
@@ -68,22 +67,22 @@ fn came_to_nothing(outcome: Outcome) -> bool
 // ---- what earlier records tell
 
 // Whether the table that record r made, if it made one, is of record k's format.
-fn serves(s: &[u8], notes: &Notes, k: usize, r: usize) -> bool
+fn serves(s: &[u8], outcomes: &[Outcome], k: usize, r: usize) -> bool
     requires both_placed { BothPlaced s.now k r }
-    requires r_lt_k { (r < k) × (k ≤ records_max) }
-    ensures { result ≡ serves s.now (outcomes_in k notes.now) k r }
+    requires r_lt_k { (r < k) × (k ≤ length outcomes.now) }
+    ensures { result ≡ serves s.now (take k outcomes.now) k r }
 {
-    is_made(notes.outcomes[r])
+    is_made(outcomes[r])
         && source_records::leads_to_format(s, r, source::format_of(source_records::leads_to(s, k)))
 }
 
 // The first earlier record whose table serves record k; k where there is none.
-pub fn server(s: &[u8], notes: &Notes, k: usize) -> usize
+pub fn server(s: &[u8], outcomes: &[Outcome], k: usize) -> usize
     requires placed { Placed s.now k }
-    requires k_lt_records_max { k < records_max }
-    ensures { result ≡ server s.now (outcomes_in k notes.now) k }
+    requires k_lt_records_max { (k < records_max) × (k ≤ length outcomes.now) }
+    ensures { result ≡ server s.now (take k outcomes.now) k }
 {
-    laws::first(k, |r| serves(s, notes, k, r))
+    laws::first(k, |r| serves(s, outcomes, k, r))
 }
 
 // Whether record r has record k's pair and offset.
@@ -106,20 +105,19 @@ pub fn twin(s: &[u8], k: usize) -> usize
 }
 
 // Whether record r leads to the subtable of record k, and that came to nothing.
-fn is_spent(s: &[u8], notes: &Notes, k: usize, r: usize) -> bool
+fn is_spent(s: &[u8], outcomes: &[Outcome], k: usize, r: usize) -> bool
     requires both_placed { BothPlaced s.now k r }
-    requires r_lt_k { (r < k) × (k ≤ records_max) }
-    ensures { result ≡ is_spent s.now (outcomes_in k notes.now) k r }
+    requires r_lt_k { (r < k) × (k ≤ length outcomes.now) }
+    ensures { result ≡ is_spent s.now (take k outcomes.now) k r }
 {
-    came_to_nothing(notes.outcomes[r])
-        && source_header::offset_of(s, r) == source_header::offset_of(s, k)
+    came_to_nothing(outcomes[r]) && source_header::offset_of(s, r) == source_header::offset_of(s, k)
 }
 
 // The first such record before k; k where there is none.
-pub fn spent(s: &[u8], notes: &Notes, k: usize) -> usize
+pub fn spent(s: &[u8], outcomes: &[Outcome], k: usize) -> usize
     requires placed { Placed s.now k }
-    requires k_lt_records_max { k < records_max }
-    ensures { result ≡ spent s.now (outcomes_in k notes.now) k }
+    requires k_lt_records_max { (k < records_max) × (k ≤ length outcomes.now) }
+    ensures { result ≡ spent s.now (take k outcomes.now) k }
 {
-    laws::first(k, |r| is_spent(s, notes, k, r))
+    laws::first(k, |r| is_spent(s, outcomes, k, r))
 }

@@ -160,7 +160,7 @@ fn unserved_outcome(
     ensures leaves { Leaves (lent_job job.now) notes.old notes.new }
     ensures turned { Turned (lent_job job.now) k result notes.old notes.new }
 {
-    let r = plan_outcomes::spent(job.source, notes, k);
+    let r = plan_outcomes::spent(job.source, &notes.outcomes, k);
     if r < k {
         return notes.outcomes[r];
     }
@@ -205,7 +205,7 @@ fn retained_outcome(
     if is_dropped(job, k, flags, others, notes) {
         return Outcome::LeftOut(Why::Covered);
     }
-    let r = plan_outcomes::server(job.source, notes, k);
+    let r = plan_outcomes::server(job.source, &notes.outcomes, k);
     if r < k {
         return Outcome::Served(r);
     }
