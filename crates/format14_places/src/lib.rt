@@ -22,7 +22,7 @@ fn earlier(measures: &[Measure], t: usize, off: usize) -> Option<Measure>
 {
     for k in (0..t / 2).rev() {
         let table = measures[2 * k + t % 2];
-        if table.source == off {
+        if table.source as usize == off {
             return Some(table);
         }
     }

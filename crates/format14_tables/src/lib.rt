@@ -41,12 +41,13 @@ pub fn measure_table(job: &Lent14, flags: &mut [u8], t: usize, off: usize) -> Me
     requires source_offset { SourceOffset (lent_job14 job.now) t off }
     ensures { Measured (lent_job14 job.now) t result }
 {
+    let source = off as u32;
     if off == 0 {
         return Measure {
             size: 0,
             sum: 0,
             bad: false,
-            source: off,
+            source,
         };
     }
     let p = job.at + off;
@@ -56,7 +57,7 @@ pub fn measure_table(job: &Lent14, flags: &mut [u8], t: usize, off: usize) -> Me
             size: table.size,
             sum: table.sum,
             bad: false,
-            source: off,
+            source,
         };
     }
     let table = format14_non_default::measure_non_default(&NonDefaultTable {
@@ -70,7 +71,7 @@ pub fn measure_table(job: &Lent14, flags: &mut [u8], t: usize, off: usize) -> Me
         size: table.size,
         sum: table.sum,
         bad: table.bad,
-        source: off,
+        source,
     }
 }
 
