@@ -48,7 +48,7 @@ pub fn measure(job: &Lent14, flags: &mut [u8], measures: &mut [Measure])
     requires tables_max_in_bounds { tables_max ≤ length measures.old }
     ensures { let g = lent_job14 job.now in Measures g (2 * selector_records g) measures.new }
 {
-    for t in 0..format14_tables::count_tables(job) {
+    for t in 0..format14_tables::count_tables(job.source, job.at) {
         measures[t] = measure_one(job, flags, measures, t);
     }
 }
@@ -65,7 +65,7 @@ pub fn names_missing(job: &Lent14, measures: &[Measure]) -> bool
     requires { let g = lent_job14 job.now in Measures g (2 * selector_records g) measures.now }
     ensures { result ≡ names_missing (lent_job14 job.now) }
 {
-    some_bad(&measures[..format14_tables::count_tables(job)])
+    some_bad(&measures[..format14_tables::count_tables(job.source, job.at)])
 }
 
 // Whether tables t and j, the first of them there, are equal. Lengths and checksums rule most out. The flags are work room.
@@ -102,7 +102,7 @@ fn later_equal(
     requires there { 0 < length (slot (lent_job14 job.now) t) }
     ensures { let g = lent_job14 job.now in result ≡ later_equal (slot g) (2 * selector_records g) t }
 {
-    let m = format14_tables::count_tables(job);
+    let m = format14_tables::count_tables(job.source, job.at);
     for j in t + 1..m {
         if equal_tables(job, flags, others, measures, t, j) {
             return j;
@@ -125,7 +125,7 @@ pub fn place_tables(
     requires tables_max_in_bounds { tables_max ≤ length ends.old }
     ensures { let g = lent_job14 job.now in Ends (slot g) (2 * selector_records g) ends.new × Total (slot g) (2 * selector_records g) result }
 {
-    let m = format14_tables::count_tables(job);
+    let m = format14_tables::count_tables(job.source, job.at);
     let mut tail = 0;
     for k in (0..m).rev() {
         let size = measures[k].size;

@@ -5,6 +5,7 @@
 ghost use Rattle.std.specs.Prelude.{◌≡◌, ◌+◌, ◌*◌, ◌%◌, ◌<◌, ◌≤◌, length};
 ghost use Rattle.std.proofs.lemmas.List.Edits.{sets};
 ghost use Rattle.laws.specs.Select.{eq_list};
+ghost use Rattle.number.specs.BigEndian.{be};
 ghost use Rattle.format14.specs.Selectors.{selector_records};
 ghost use Rattle.format14.specs.Lent.{lent_job14};
 ghost use Rattle.format14.specs.ByNumber.{slot, SourceOffset, Numbered, Measured, BothThere};
@@ -13,11 +14,12 @@ use format14::Lent14;
 use format14_mapping::NonDefaultTable;
 use format14_sharing::Measure;
 
-// How many tables the source's subtable has: two for each selector record.
-pub fn count_tables(job: &Lent14) -> usize
-    ensures { result ≡ 2 * selector_records (lent_job14 job.now) }
+// How many tables the source's subtable at `at` has: two for each selector record.
+pub fn count_tables(s: &[u8], at: usize) -> usize
+    requires { at + 10 ≤ length s.now }
+    ensures { result ≡ 2 * be 4 s.now (at + 6) }
 {
-    2 * number::u32_at(job.source, job.at + 6) as usize
+    2 * number::u32_at(s, at + 6) as usize
 }
 
 // The offset of the source's table t; 0 if its selector is not kept or it does not count, as 0 is no table in a selector record.

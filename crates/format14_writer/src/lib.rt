@@ -77,7 +77,7 @@ fn copy_var_selector_record_uvs_tables(
     ensures { let g = lent_job14 job.now in out.new ≡ ends_at stop out.old (concat (written_from (slot g) (2 * selector_records g) 0)) }
 {
     let mut tail = 0;
-    for k in (0..format14_tables::count_tables(job)).rev() {
+    for k in (0..format14_tables::count_tables(job.source, job.at)).rev() {
         let far = ends[k];
         if far > tail {
             format14_tables::copy_table(out, stop - far, job, flags, k);
