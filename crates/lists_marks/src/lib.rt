@@ -21,6 +21,7 @@ pub trait Unsigned: Copy {
     ghost value_at: { (xs : List Self) (i : ℕ) (d : Self) → i < length xs → get_or (values xs) i 0 ≡ value (slice_index_or xs i d) };
 }
 
+// Two impls that are alike, since no macro of this repository may write an impl. `value` is worded in two ways, so that an edit can name each.
 impl Unsigned for u32 {
     ghost value = { λ x. x };
 
@@ -45,7 +46,7 @@ impl Unsigned for u16 {
     ghost value_at = { λ xs i d h. sym (get_or_default_zero xs i d h) };
 
     fn value(self) -> u64 {
-        u64::from(self)
+        self.into()
     }
 }
 
