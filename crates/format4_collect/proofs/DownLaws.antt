@@ -48,12 +48,12 @@ cleared_at n fs k c l h =
 
 module _ (f : Format4) where
   -- the segments from i on are walked
-  pub record Downing (noted : List Bool) (ps fs₀ fs : List ℕ) (i : ℕ) : Type 0 where
+  pub record Downing (noted ps fs₀ fs : List ℕ) (i : ℕ) : Type 0 where
     pub within : i ≤ f.place.segs
     pub telling : Telling (maps_of f) (among_of f i) ps fs₀ fs
     pub notes : NotedBlocks noted fs
 
-  pub downing_start : (noted : List Bool) (ps fs₀ : List ℕ) (i : ℕ) → (i ≡ first (stops_at f) f.place.segs 0) × (i ≤ f.place.segs) → Cleared (length ps) fs₀ → Flags ps fs₀ → NotedBlocks noted fs₀
+  pub downing_start : (noted ps fs₀ : List ℕ) (i : ℕ) → (i ≡ first (stops_at f) f.place.segs 0) × (i ≤ f.place.segs) → Cleared (length ps) fs₀ → Flags ps fs₀ → NotedBlocks noted fs₀
       → Downing noted ps fs₀ fs₀ i
   unfolding maps4
   downing_start noted ps fs₀ i e c k n =
@@ -63,7 +63,7 @@ module _ (f : Format4) where
         notes = n;
       }
 
-  pub downing_on : (noted noted' : List Bool) (ps fs₀ fs fs' : List ℕ) (i : ℕ) (g : Segment4) → Downing noted ps fs₀ fs i → 0 < i → IsSegment f (i - 1) g
+  pub downing_on : (noted noted' ps fs₀ fs fs' : List ℕ) (i : ℕ) (g : Segment4) → Downing noted ps fs₀ fs i → 0 < i → IsSegment f (i - 1) g
       → DecidedBy (holds_of g) (says_of g) ps fs fs' → NotedBlocks noted' fs' → Downing noted' ps fs₀ fs' (i - 1)
   downing_on noted noted' ps fs₀ fs fs' i g d h r b n =
       let m : i - 1 + 1 ≡ i = omega arith in
@@ -74,12 +74,12 @@ module _ (f : Format4) where
         notes = n;
       }
 
-  pub downing_end : (noted : List Bool) (ps fs₀ fs : List ℕ) (i : ℕ) → Downing noted ps fs₀ fs i → i ≤ 0 → Telling (maps_of f) (among_of f 0) ps fs₀ fs
+  pub downing_end : (noted ps fs₀ fs : List ℕ) (i : ℕ) → Downing noted ps fs₀ fs i → i ≤ 0 → Telling (maps_of f) (among_of f 0) ps fs₀ fs
   downing_end noted ps fs₀ fs i d h =
       let e : i ≡ 0 = omega arith in
       rw e at d.telling
 
-  pub flags_down : (noted : List Bool) (ps fs₀ fs : List ℕ) (i : ℕ) → Flags ps fs₀ → Downing noted ps fs₀ fs i → Flags ps fs
+  pub flags_down : (noted ps fs₀ fs : List ℕ) (i : ℕ) → Flags ps fs₀ → Downing noted ps fs₀ fs i → Flags ps fs
   flags_down noted ps fs₀ fs i k d = record { rising = k.rising; beside = omega (arith, k.beside, d.telling.same) }
 
   -- ---- the answers

@@ -10,7 +10,7 @@ use lib.Seq.{get_or-set_same, get_or-set_other}
 use borrow.Author.Tests.{le-leb, lt-leb, ne_eqb, eqb-true, eqb-false}
 use Rattle.laws.specs.Choice.{pick}
 use Rattle.laws.specs.Lists.{Rising}
-use Rattle.laws.proofs.ChoiceLaws.{by_test, by_leb, false-true}
+use Rattle.laws.proofs.ChoiceLaws.{by_test, by_leb}
 use Rattle.lists_marks.specs.Marks.{between, flag_of, Bound, Flags, Inside}
 use Rattle.lists_marks.proofs.BelowLaws.{below_past, below_upto, inside}
 use Rattle.laws.proofs.ReadLaws.{get_or_row}
@@ -107,27 +107,27 @@ held_at v ps fs₀ fs start end low high j l d h = l.each j d.order h
 
 -- ---- blocks
 
-pub noted_none : (n : ℕ) (fs : List ℕ) → NotedBlocks (replicate n false) fs
-noted_none n fs = record { shut = λ b k s a h z. false-true (sym (get_or_row {A = Bool} false n b) ∙ s) }
+pub noted_none : (n : ℕ) (fs : List ℕ) → NotedBlocks (replicate n 0) fs
+noted_none n fs = record { shut = λ b k s a h z. s (get_or_row {A = ℕ} 0 n b) }
 
-module _ (v : ℕ → Bool) (noted : List Bool) (ps fs : List ℕ) (low high : ℕ) (n : NotedBlocks noted fs) where
+module _ (v : ℕ → Bool) (noted ps fs : List ℕ) (low high : ℕ) (n : NotedBlocks noted fs) where
   pub noted_kept : (fs' : List ℕ) → Decided v ps fs fs' low high → NotedBlocks noted fs'
   noted_kept fs' d =
       record { shut = λ b k s a h z. n.shut b k s a h (sym (stays v ps fs fs' low high k d (n.shut b k s a h)) ∙ z) }
 
-  pub noted_more : (fs' : List ℕ) → Decided v ps fs fs' low high → low + 256 ≤ high → high ≤ 256 * (low / 256) + 256 → NotedBlocks (set noted (low / 256) true) fs'
+  pub noted_more : (fs' : List ℕ) → Decided v ps fs fs' low high → low + 256 ≤ high → high ≤ 256 * (low / 256) + 256 → NotedBlocks (set noted (low / 256) 1) fs'
   noted_more fs' d l u = record { shut = one }
     where
-      one : (b k : ℕ) → get_or (set noted (low / 256) true) b false ≡ true → 256 * b ≤ k → k < 256 * b + 256 → get_or fs' k 0 ≡ 0 → ⊥
+      one : (b k : ℕ) → (get_or (set noted (low / 256) 1) b 0 ≡ 0 → ⊥) → 256 * b ≤ k → k < 256 * b + 256 → get_or fs' k 0 ≡ 0 → ⊥
       one b k s a h z =
           by_test ⊥ (eqb b (low / 256))
           (λ t. let q = eqb-true b (low / 256) t in
           let a' : 256 * (low / 256) ≤ k = rw q at a in
           let h' : k < 256 * (low / 256) + 256 = rw q at h in
           decided_some (v (get_or ps k 0)) (get_or fs k 0) (sym (d.here k (omega arith) (omega arith)) ∙ z))
-          (λ t. (noted_kept fs' d).shut b k (rw (get_or-set_other noted (low / 256) b true false (eqb-false b (low / 256) t)) at s) a h z)
+          (λ t. (noted_kept fs' d).shut b k (rw (get_or-set_other noted (low / 256) b 1 0 (eqb-false b (low / 256) t)) at s) a h z)
 
-  pub noted_skip : get_or noted (low / 256) false ≡ true → low < high → high ≤ 256 * (low / 256) + 256 → Decided v ps fs fs low high
+  pub noted_skip : (get_or noted (low / 256) 0 ≡ 0 → ⊥) → low < high → high ≤ 256 * (low / 256) + 256 → Decided v ps fs fs low high
   noted_skip s l u =
       record {
         same = refl;

@@ -1,5 +1,5 @@
 -- Inner: one segment, walking from the last to the first; no promise names it. A flag is 0 while no segment held its point, then 1 or 2 for yes or no, which stays.
-use Rattle.std.specs.Prelude.{ℕ, ◌+◌, ◌*◌, ◌<◌, ◌≤◌, ◌≡◌, List, Bool, true, false, eqb, length, get_or}
+use Rattle.std.specs.Prelude.{ℕ, ◌+◌, ◌*◌, ◌<◌, ◌≤◌, ◌≡◌, List, Bool, eqb, length, get_or}
 use Rattle.laws.specs.Choice.{pick}
 use Rattle.lists_marks.specs.Marks.{Inside}
 
@@ -25,8 +25,8 @@ pub record Decided (v : ℕ → Bool) (ps fs fs' : List ℕ) (low high : ℕ) : 
   pub over : (k : ℕ) → high ≤ k → get_or fs' k 0 ≡ get_or fs k 0
 
 -- where a block of 256 is noted, none of its flags is 0
-pub record NotedBlocks (noted : List Bool) (fs : List ℕ) : Type 0 where
-  pub shut : (b k : ℕ) → get_or noted b false ≡ true → 256 * b ≤ k → k < 256 * b + 256 → get_or fs k 0 ≡ 0 → ⊥
+pub record NotedBlocks (noted fs : List ℕ) : Type 0 where
+  pub shut : (b k : ℕ) → (get_or noted b 0 ≡ 0 → ⊥) → 256 * b ≤ k → k < 256 * b + 256 → get_or fs k 0 ≡ 0 → ⊥
 
 -- the flags of the points that pass p become what v decides
 pub record DecidedBy (p v : ℕ → Bool) (ps fs fs' : List ℕ) : Type 0 where

@@ -45,7 +45,7 @@ fn decide_block(
     segment: &Segment4,
     points: &[u32],
     flags: &mut [u8],
-    noted: &mut [bool; 256],
+    noted: &mut [u8; 256],
     span: Span,
 )
     requires low_lt_high { (span.low < 65536) × (span.low < span.high) × (span.high ≤ 256 * (span.low / 256) + 256) }
@@ -56,12 +56,12 @@ fn decide_block(
     ensures noted_blocks_2 { NotedBlocks noted.new flags.new }
 {
     let block = span.low / BLOCK;
-    if noted[block] {
+    if noted[block] != 0 {
         return;
     }
     decide_points(segment, points, flags, span);
     if span.low + BLOCK <= span.high {
-        noted[block] = true;
+        noted[block] = 1;
     }
 }
 
@@ -70,7 +70,7 @@ fn decide_blocks(
     segment: &Segment4,
     points: &[u32],
     flags: &mut [u8],
-    noted: &mut [bool; 256],
+    noted: &mut [u8; 256],
     span: Span,
 )
     requires order { (span.low ≤ span.high) × (span.high ≤ 65536) }
@@ -90,7 +90,7 @@ fn decide_blocks(
 }
 
 // A segment's word on the points that it holds and of which no later segment said anything.
-pub fn decide_segment(segment: &Segment4, points: &[u32], flags: &mut [u8], noted: &mut [bool; 256])
+pub fn decide_segment(segment: &Segment4, points: &[u32], flags: &mut [u8], noted: &mut [u8; 256])
     requires flags { Flags points.now flags.old }
     requires noted_blocks { NotedBlocks noted.old flags.old }
     ensures decided_by { DecidedBy (holds_of segment.now) (says_of segment.now) points.now flags.old flags.new }
@@ -148,7 +148,7 @@ fn mark_in_order(subtable: &Format4, points: &[u32], flags: &mut [u8]) -> bool
 }
 
 // The walk from the last segment to the first, from flags that are clear and with nothing noted.
-fn mark_down_by(subtable: &Format4, points: &[u32], flags: &mut [u8], noted: &mut [bool; 256])
+fn mark_down_by(subtable: &Format4, points: &[u32], flags: &mut [u8], noted: &mut [u8; 256])
     requires flags { Flags points.now flags.old }
     requires cleared { Cleared (length points.now) flags.old }
     requires noted_blocks { NotedBlocks noted.old flags.old }
@@ -176,7 +176,7 @@ fn mark_down(subtable: &Format4, points: &[u32], flags: &mut [u8])
     requires cleared { Cleared (length points.now) flags.old }
     ensures { flags.new ≡ sets flags.old 0 (flagged (maps_of subtable.now) points.now) }
 {
-    let mut noted = [false; 256];
+    let mut noted = [0u8; 256];
     mark_down_by(subtable, points, flags, &mut noted);
     settle(flags, points.len());
 }
