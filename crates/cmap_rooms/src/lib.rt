@@ -36,6 +36,20 @@ fn fits(job: &Job, kept: usize, pairs: usize) -> bool
     job.kept.len() <= kept && job.codes.len() <= pairs
 }
 
+// Whether the small room is enough. Its size is said here, so that no other size passes for it.
+fn fits_small(job: &Job) -> bool
+    ensures { result ≡ both (leb (length job.now.kept.now) 4096) (leb (length job.now.codes.now) 2048) }
+{
+    fits(job, SMALL_KEPT, SMALL_PAIRS)
+}
+
+// The same of the middle room.
+fn fits_middle(job: &Job) -> bool
+    ensures { result ≡ both (leb (length job.now.kept.now) 32768) (leb (length job.now.codes.now) 16384) }
+{
+    fits(job, MIDDLE_KEPT, MIDDLE_PAIRS)
+}
+
 // ---- the cut
 
 // Writes the result where the answer is that it is written; the flags and the two lists after them are work room.
@@ -108,10 +122,10 @@ pub fn carry_out(job: &Job, out: &mut [u8]) -> Answer
     ensures value { result ≡ answer_of (lent_job job.now) (length out.old) }
     ensures out_after { out.new ≡ output_of (lent_job job.now) out.old }
 {
-    if fits(job, SMALL_KEPT, SMALL_PAIRS) {
+    if fits_small(job) {
         return carry_out_in::<SMALL_KEPT, SMALL_PAIRS>(job, out);
     }
-    if fits(job, MIDDLE_KEPT, MIDDLE_PAIRS) {
+    if fits_middle(job) {
         return carry_out_in::<MIDDLE_KEPT, MIDDLE_PAIRS>(job, out);
     }
     carry_out_in::<KEPT_MAX, PAIRS_MAX>(job, out)
@@ -158,10 +172,10 @@ pub fn tell(job: &Job, k: usize) -> Fate
     requires { Passing (lent_job job.now) }
     ensures { result ≡ fate_of (lent_job job.now) k }
 {
-    if fits(job, SMALL_KEPT, SMALL_PAIRS) {
+    if fits_small(job) {
         return tell_in::<SMALL_KEPT, SMALL_PAIRS>(job, k);
     }
-    if fits(job, MIDDLE_KEPT, MIDDLE_PAIRS) {
+    if fits_middle(job) {
         return tell_in::<MIDDLE_KEPT, MIDDLE_PAIRS>(job, k);
     }
     tell_in::<KEPT_MAX, PAIRS_MAX>(job, k)
