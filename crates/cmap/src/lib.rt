@@ -14,7 +14,9 @@ pub fn subset(job: &Job, out: &mut [u8]) -> Answer
     ensures value { result ≡ answer_of (lent_job job.now) (length out.old) }
     ensures out_after { out.new ≡ output_of (lent_job job.now) out.old }
 {
-    cmap_refusals::early_refusal(job)?;
+    if let Err(refusal) = cmap_refusals::early_refusal(job) {
+        return Err(refusal.into());
+    }
     cmap_rooms::carry_out(job, out)
 }
 
