@@ -2,7 +2,7 @@
 #![tactic(auto)]
 
 ghost use Rattle.std.specs.Prelude.{◌≡◌, None};
-ghost use Rattle.job_output.specs.Output.{head_of, payload_of, Parts};
+ghost use Rattle.job_output.specs.Output.{head_of, payload_of, refused, Parts};
 ghost use Rattle.job_output.specs.Answered.{reply_of, reply_to};
 
 use cmap_promise::{Answer, Unwritten};
@@ -21,6 +21,13 @@ pub fn head(reply: Reply) -> [u8; 6]
     };
     let [_, _, _, _, a, b, c, d] = length.to_be_bytes();
     [mark[0], mark[1], a, b, c, d]
+}
+
+// A refusal whole: the program writes it at once, so that no reader gets a part of it.
+pub fn refusal(number: u8) -> [u8; 7]
+    ensures { result ≡ refused number }
+{
+    [b'N', b'O', 0, 0, 0, 1, number]
 }
 
 // The result's bytes, or the number.

@@ -24,6 +24,10 @@ fn answer_one() -> bool {
     let mut input = [0u8; INPUT_ROOM];
     let n = io::read_full(0, &mut input[..length]);
     let reply = job::answer(&input[..n], &mut out);
+    if let Err(number) = reply {
+        io::write_all(1, &job_output::refusal(number));
+        return true;
+    }
     io::write_all(1, &job_output::head(reply));
     io::write_all(1, job_output::payload(&reply, &out));
     true
