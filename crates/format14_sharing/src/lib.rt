@@ -5,8 +5,8 @@ ghost use Rattle.std.specs.Prelude.{◌≡◌, ◌+◌, ◌^◌, ◌<◌, ◌≤
 ghost use Rattle.laws.specs.Choice.{both, if_lt};
 
 // What is found of a new table without writing it: how long it is, 0 where there is none, a checksum of its bytes, whether it brings refusal 8, and the
-// offset of its source, of four bytes as in a selector record, so that a measure takes 24. Length and checksum are promised of a table that brings
-// refusal 8 too, so that no Err takes their place.
+// offset of its source, of four bytes as in a selector record, so that a measure takes 24 bytes. Length and checksum are promised of a table that
+// brings refusal 8 too, so that no Err takes their place.
 #[derive(Clone, Copy)]
 pub struct Measure {
     pub size: usize,

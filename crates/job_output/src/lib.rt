@@ -23,7 +23,7 @@ pub fn head(reply: Reply) -> [u8; 6]
     [mark[0], mark[1], a, b, c, d]
 }
 
-// A refusal whole: the program writes it at once, so that no reader gets a part of it.
+// A refusal whole, which the programs write at once: one read can get all of it.
 pub fn refusal(number: u8) -> [u8; 7]
     ensures { result ≡ refused number }
 {
