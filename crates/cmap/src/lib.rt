@@ -10,6 +10,7 @@ use cmap_promise::{Answer, Fate, FateKind};
 use plan_listing::Job;
 
 // Cuts the source down to the listed pairs and what is kept. Sizes first, then bytes: a refusal writes nothing.
+// A refusal is handed on by `if let`: the check names the goals of a `?` by what stands before it, so that an edit there would be refused for its form.
 pub fn subset(job: &Job, out: &mut [u8]) -> Answer
     ensures value { result ≡ answer_of (lent_job job.now) (length out.old) }
     ensures out_after { out.new ≡ output_of (lent_job job.now) out.old }
