@@ -1,7 +1,7 @@
 -- What the functions come to test by test, and what a job that refusals 1 to 7 let pass holds to.
-use Rattle.std.specs.Prelude.{Option, Some, None, Result, Err}
+use Rattle.std.specs.Prelude.{Option, Some, None, Result, Ok, Err}
 use Prim.Native.Nat.{ℕ, ◌<◌, ◌≤◌}
-use mathlib.Core.Path.{◌≡◌, refl, sym, ◌∙◌}
+use mathlib.Core.Path.{◌≡◌, refl, sym, ap, ◌∙◌}
 use mathlib.Core.List.{List}
 use native.Mathlib.Omega.{arith}
 use lib.ListN.{length}
@@ -17,7 +17,7 @@ use Rattle.result.proofs.LentLaws.{lent}
 use Rattle.result.specs.declared.Refusal.{Refusal}
 use Rattle.result.specs.declared.Refusal.TheVariants.{BadHeader}
 use Rattle.result.specs.Refusal.{refusal_told, list_refusals, source_refusals, early_refusal, rises}
-use Rattle.result.proofs.RefusalLaws.{first_append, first_stays, early_passed}
+use Rattle.result.proofs.RefusalLaws.{first_append, first_stays, told_some, told_none, early_passed}
 use Rattle.cmap_refusals.specs.Refusing.{list_refusal, source_refusal, format_refusal}
 
 -- ---- the header
@@ -41,13 +41,23 @@ pub ruleset by_header = (header_counts, header_refused, header_passed)
 -- ---- lists before the source
 
 module _ (j : Job) where
-  pub lists_refused : 0 < list_refusal j → early_refusal j ≡ list_refusal j
+  pub early_by_lists : 0 < list_refusal j → early_refusal j ≡ list_refusal j
   unfolding list_refusal early_refusal
-  lists_refused h = first_stays (list_refusals j) (source_refusals j.source) h
+  early_by_lists h = first_stays (list_refusals j) (source_refusals j.source) h
 
-  pub lists_passed : list_refusal j ≡ 0 → early_refusal j ≡ source_refusal j.source
+  pub early_by_source : list_refusal j ≡ 0 → early_refusal j ≡ source_refusal j.source
   unfolding list_refusal source_refusal early_refusal rises
-  lists_passed h = first_append (list_refusals j) (source_refusals j.source) refl h
+  early_by_source h = first_append (list_refusals j) (source_refusals j.source) refl h
+
+pub ruleset early_by = (early_by_lists, early_by_source)
+
+-- the same of a result that tells what the lists break
+module _ (j : Job) (lists : Result (Unit {0}) Refusal) (e : refusal_told lists ≡ list_refusal j) where
+  pub lists_refused : (refusal : Refusal) → lists ≡ Err refusal → refusal_told (Err refusal) ≡ early_refusal j
+  lists_refused refusal q = ap refusal_told (sym q) ∙ e ∙ sym (early_by_lists j (told_some lists (list_refusal j) e refusal q))
+
+  pub lists_passed : (u : Unit {0}) (r : Result (Unit {0}) Refusal) → lists ≡ Ok u → refusal_told r ≡ source_refusal j.source → refusal_told r ≡ early_refusal j
+  lists_passed u r q f = f ∙ sym (early_by_source j (told_none lists (list_refusal j) e u q))
 
 pub ruleset lists_first = (lists_refused, lists_passed)
 

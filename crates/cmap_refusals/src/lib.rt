@@ -67,7 +67,7 @@ fn source_refusal(s: &[u8]) -> Result<(), Refusal>
 }
 
 // Refusals 1 to 7.
-#[tactic(auto, using(std::proofs::lemmas::Grind::common_steps, std::proofs::lemmas::Result::err_from_is_err_and, crate::proofs::RefusingLaws::lists_first))]
+#[tactic(auto, using(std::proofs::lemmas::Grind::common_steps, std::proofs::lemmas::Result::err_from_is_err_and, crate::proofs::RefusingLaws::early_by))]
 pub fn early_refusal(job: &Job) -> Result<(), Refusal>
     ensures { refusal_told result ≡ early_refusal (lent_job job.now) }
 {

@@ -39,15 +39,17 @@ last_told k notes h =
 pub told_as_noted : (notes : Notes) (k : ℕ) (o : Outcome) → k < length notes.outcomes → at (outcomes_in (k + 1) (noted notes k o)) k ≡ o
 told_as_noted notes k o h = at_noted (k + 1) k (noted notes k o) (omega arith) ∙ told_in_place notes.outcomes k o h
 
--- an outcome more
-pub noted_on : (notes : Notes) (k : ℕ) (o : Outcome) → k < length notes.outcomes → outcomes_in (k + 1) (noted notes k o) ≡ outcomes_in k notes ++ (o ∷ [])
-unfolding outcomes_in
-noted_on notes k o h =
-    last_told k (noted notes k o) (omega (arith, h, length-set notes.outcomes k o))
-    ∙ ap (λ (x : Outcome). outcomes_in k (noted notes k o) ++ (x ∷ [])) (told_as_noted notes k o h)
-    ∙ ap (λ (os : List Outcome). os ++ (o ∷ [])) (take-set-le k notes.outcomes k o (omega arith))
-
 -- they depend on the row alone
 pub row_tells : (before after : Notes) (k : ℕ) → after.outcomes ≡ before.outcomes → outcomes_in k after ≡ outcomes_in k before
 unfolding outcomes_in
 row_tells before after k e = ap (take k) e
+
+-- an outcome more
+pub noted_on : (before after : Notes) (k : ℕ) (o : Outcome) → k < length before.outcomes → after.outcomes ≡ set before.outcomes k o
+    → outcomes_in (k + 1) after ≡ outcomes_in k before ++ (o ∷ [])
+unfolding outcomes_in
+noted_on before after k o h q =
+    row_tells (noted before k o) after (k + 1) q
+    ∙ last_told k (noted before k o) (omega (arith, h, length-set before.outcomes k o))
+    ∙ ap (λ (x : Outcome). outcomes_in k (noted before k o) ++ (x ∷ [])) (told_as_noted before k o h)
+    ∙ ap (λ (os : List Outcome). os ++ (o ∷ [])) (take-set-le k before.outcomes k o (omega arith))

@@ -4,7 +4,7 @@ use mathlib.Core.Path.{◌≡◌, refl, ap, ◌∙◌}
 use mathlib.Core.List.{List, [], ◌∷◌, ◌++◌}
 use native.Mathlib.Numerals.{add-one}
 use native.Mathlib.Omega.{arith}
-use lib.ListN.{length, length-set}
+use lib.ListN.{length, set, length-set}
 use lib.Seq.{get_or_at}
 use Rattle.laws.proofs.ChoiceLaws.{by_leb}
 use Rattle.number.specs.Limits.{records_max}
@@ -21,7 +21,7 @@ use Rattle.plan.specs.CoveredFlags.{CoveredRoom}
 use Rattle.plan.specs.Plan.{outcome_of, outcomes, plan}
 use Rattle.plan.specs.Prepared.{Prepared}
 use Rattle.plan.specs.declared.Notes.{Notes}
-use Rattle.plan.specs.Notes.{outcomes_in, noted, Fronted, Endings, Notebook, Leaves, Stays}
+use Rattle.plan.specs.Notes.{outcomes_in, Fronted, Endings, Notebook, Leaves, Stays}
 use Rattle.plan.specs.Earlier.{Earlier}
 use Rattle.laws.proofs.ReadLaws.{get_or_before, get_or_past}
 use Rattle.plan.proofs.NotedLaws.{length_noted, noted_on, row_tells}
@@ -133,13 +133,13 @@ module _ (j : Job) (m : ℕ) (fs ot tocs togs : List ℕ) (ns : Notes) (k : ℕ)
   pub planning_on : (o : Outcome) (fs' ot' tocs' togs' : List ℕ) (ns' ns'' : Notes) → k < m → o ≡ outcome_of j (outcomes_in k ns) k → Short o
       → length fs' ≡ length fs → length ot' ≡ length ot → length tocs' ≡ length tocs → length togs' ≡ length togs
       → Leaves j ns ns' → Stays j (outcomes_in k ns) k o ns ns'
-      → ns'' ≡ noted ns' k o
+      → ns''.outcomes ≡ set ns'.outcomes k o → ns''.fronts ≡ ns'.fronts → ns''.ends ≡ ns'.ends
       → Planning j m fs' ot' tocs' togs' ns'' (k + 1)
-  planning_on o fs' ot' tocs' togs' ns' ns'' h e s a b c d f w q =
+  planning_on o fs' ot' tocs' togs' ns' ns'' h e s a b c d f w q fr en =
       let inside : k < records_max = omega (arith, l.all, l.prepared.few_records) in
       let long : k < length ns'.outcomes = omega (arith, inside, f.fronted.outcomes) in
       let before = row_tells ns ns' k f.row in
-      let on : outcomes_in (k + 1) ns'' ≡ outcomes_in k ns ++ (o ∷ []) = rw (q, noted_on ns' k o long, before) in
+      let on : outcomes_in (k + 1) ns'' ≡ outcomes_in k ns ++ (o ∷ []) = rw (noted_on ns' ns'' k o long q, before) in
       let len = length_noted k ns (omega (arith, inside, l.fronted.outcomes)) in
       record {
         prepared = prepared_again j fs ot tocs togs l.prepared fs' ot' tocs' togs' a b c d;
@@ -147,8 +147,8 @@ module _ (j : Job) (m : ℕ) (fs ot tocs togs : List ℕ) (ns : Notes) (k : ℕ)
         within = omega arith;
         told = on ∙ grown o e;
         small = rw on (small_snoc (outcomes_in k ns) o l.small s);
-        fronted = fronted_same j ns' ns'' f.fronted (ap (λ (n : Notes). length n.outcomes) q ∙ length-set ns'.outcomes k o) (ap (λ (n : Notes). n.fronts) q);
-        endings = rw on (endings_same j (outcomes_in k ns ++ (o ∷ [])) (k + 1) ns' ns'' (ap (λ (n : Notes). n.ends) q) (endings_on j (outcomes_in k ns) k o ns ns' len l.endings w));
+        fronted = fronted_same j ns' ns'' f.fronted (ap length q ∙ length-set ns'.outcomes k o) fr;
+        endings = rw on (endings_same j (outcomes_in k ns ++ (o ∷ [])) (k + 1) ns' ns'' en (endings_on j (outcomes_in k ns) k o ns ns' len l.endings w));
       }
 
   done : m ≤ k → k ≡ records j

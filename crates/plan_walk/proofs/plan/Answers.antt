@@ -1,6 +1,8 @@
 -- What is noted of the records so far is the list of outcomes so far.
+use mathlib.Core.Path.{ap}
 use native.Mathlib.Omega.{arith}
 use borrow.Author.Rules.{rules}
+use Rattle.plan.specs.declared.Notes.{Notes}
 use Rattle.plan.proofs.PlanLaws.{planning, planning_on, planning_rooms, planning_done, planning_small, planning_ended}
 use Rattle.plan_walk.proofs.plan.Goals as goal
 
@@ -18,7 +20,8 @@ outcome_of-outcome-requires c = record {
 pub loop-k-preserved : goal.loop-k-preserved
 loop-k-preserved c = let l = c.loop-k.invariant.0 in
     let e = c.outcome_of-outcome.ensures in
-    (planning_on _ _ _ _ _ _ _ _ l _ _ _ _ _ _ _ (omega arith) e.value.0 e.value.1 (search rules) (search rules) (search rules) (search rules) e.leaves e.stays c.note.ensures, search rules)
+    let q = c.note.ensures in
+    (planning_on _ _ _ _ _ _ _ _ l _ _ _ _ _ _ _ (omega arith) e.value.0 e.value.1 (search rules) (search rules) (search rules) (search rules) e.leaves e.stays (ap (λ (n : Notes). n.outcomes) q) (ap (λ (n : Notes). n.fronts) q) (ap (λ (n : Notes). n.ends) q), search rules)
 
 pub returns-clause-planned : goal.returns-clause-planned
 returns-clause-planned c = let l = c.loop-k.invariant.0 in
