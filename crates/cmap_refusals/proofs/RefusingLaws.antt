@@ -51,7 +51,7 @@ module _ (j : Job) where
 
 pub ruleset early_by = (early_by_lists, early_by_source)
 
--- the same of a result that tells what the lists break
+-- the same for who holds a result that tells what the lists break; the check finds `early_refusal` by the two above
 module _ (j : Job) (lists : Result (Unit {0}) Refusal) (e : refusal_told lists ≡ list_refusal j) where
   pub lists_refused : (refusal : Refusal) → lists ≡ Err refusal → refusal_told (Err refusal) ≡ early_refusal j
   lists_refused refusal q = ap refusal_told (sym q) ∙ e ∙ sym (early_by_lists j (told_some lists (list_refusal j) e refusal q))
